@@ -1,0 +1,138 @@
+-- Document 01's examples marked T, as one list, with a few of layouts, strict lines and descriptions beside them, and the theorem
+-- that each holds of the definitions. Assumes nothing.
+use mathlib.Core.Path.{_≡_, refl}
+use mathlib.Core.List.{List, [], _∷_, _++_}
+use mathlib.Core.Option.{Option, some, none}
+use Prim.Native.Nat.{ℕ, _-_}
+use Prim.Native.String.{String}
+use lib.ListN.{length, replicate}
+use Rattle.model.specs.declared.Kind.the-variants.{Subgraph, Translation}
+use Rattle.model.specs.declared.Strictness.{Strictness}
+use Rattle.model.specs.declared.Strictness.the-variants.{Fine, Faulty}
+use Rattle.model.specs.Text.{text}
+use Rattle.model.specs.Bytes.{Bytes, compareNumbers, compareBytes, sameBytes, split}
+use Rattle.model.specs.Numbers.{decimal, digits, le16s}
+use Rattle.model.specs.Record.{Pair, GraphName, empty, comparePairs, insert, insertAll, ascends, names, judge, isValid}
+use Rattle.model.specs.Layout.{placeOf, entries, pairPlaces, contents, encode, nameAt, pairsFrom, shown, decode}
+use Rattle.model.specs.Writing.{relationsTag, moreRelations}
+use Rattle.model.specs.Reading.{Reading, done, refused, typedField, gafLine, typedFields, lineFields, linesFrom, withoutLastEmpty, fromHeaderLines, tagRelations, tagValue, nameValue, fromTags}
+use Rattle.model.specs.Path.{Step, leavingBy, leaving, firstOf, firstPath, pathFrom, bestPath, subgraphPath, fullPath}
+use Rattle.model.specs.Strict.{strict, strictFields, fineField, matches, after, nullable, valueOf}
+use Rattle.model.specs.Describe.{describeRelationship, legs, afterLastEmpty, stepLines, graphLines}
+
+abbrev p : String → String → Pair
+p a b = record { from = text a; to = text b }
+
+abbrev sub : String → Step
+sub n = record { kind = Subgraph; next = text n }
+
+abbrev tra : String → Step
+tra n = record { kind = Translation; next = text n }
+
+abbrev named : Option Bytes → List Pair → List Pair → GraphName
+named n s t = record { name = n; subgraph = s; translation = t }
+
+abbrev bare : String → GraphName
+bare n = named (some (text n)) [] []
+
+-- a refusal: number, line, and the quoted part's start and size
+abbrev fault : ℕ → ℕ → ℕ → ℕ → Reading
+fault n l s k = refused (record { number = n; line = l; start = s; size = k })
+
+-- a buffer of numbers, then text, then zeros
+abbrev buffer : List ℕ → String → Bytes
+buffer ns t = le16s ns ++ (text t ++ replicate (32768 - length (le16s ns ++ text t)) 0)
+
+-- an input, and what the definitions should give for it
+pub data Example : Type 0 where
+  header : String → Reading → Example
+  subgraphTag : String → Reading → Example
+  tagOf : List Pair → String → Example
+  path : GraphName → GraphName → Option (List Step) → Example
+  full : GraphName → GraphName → Option (List Step) → Example
+  layout : List ℕ → String → Option GraphName → Example
+  line : String → Strictness → Example
+  description : GraphName → GraphName → String → String → String → Example
+
+abbrev pub Holds : Example → Type 0
+Holds (header t r) = fromHeaderLines (text t) ≡ r
+Holds (subgraphTag t r) = fromTags none (some (text t)) none ≡ r
+Holds (tagOf ps t) = relationsTag ps ≡ some (text t)
+Holds (path g h r) = subgraphPath g h ≡ r
+Holds (full g h r) = fullPath g h ≡ r
+Holds (layout ns t g) = decode (buffer ns t) ≡ g
+Holds (line t r) = strict (text t) ≡ r
+Holds (description g h d e t) = describeRelationship g h (text d) (text e) ≡ text t
+
+abbrev pub All : List Example → Type 0
+All [] = Unit {0}
+All (e ∷ es) = Holds e × All es
+
+-- document 01's examples 1 to 6
+abbrev pub headers : List Example
+headers =
+    header "H\tNM:Z:" (done (named (some []) [] []))
+    ∷ header "@RN\t" (fault 6 1 0 4)
+    ∷ header "@RN" (fault 1 1 0 0)
+    ∷ header "H\t" (fault 3 1 2 0)
+    ∷ header "H\tSG:i:7" (done empty)
+    ∷ header "H\tSG:Z:a,b,c" (fault 4 1 2 10)
+    ∷ []
+
+-- its examples 7 to 9
+abbrev pub tags : List Example
+tags =
+    subgraphTag "" (fault 9 0 0 0)
+    ∷ subgraphTag "a,b;a,b" (done (named none (p "a" "b" ∷ []) []))
+    ∷ header "@SG\ta,b\tc" (done (named none (p "a,b" "c" ∷ []) []))
+    ∷ tagOf (p "a,b" "c" ∷ []) "a,b,c"
+    ∷ subgraphTag "a,b,c" (fault 9 0 0 5)
+    ∷ []
+
+-- its examples 10 to 13
+abbrev pub paths : List Example
+paths =
+    path (bare "A") (bare "A") (some [])
+    ∷ path empty empty none
+    ∷ path (named (some (text "A")) (p "A" "K" ∷ p "A" "M" ∷ p "K" "Z" ∷ p "M" "Z" ∷ []) []) (bare "Z") (some (sub "K" ∷ sub "Z" ∷ []))
+    ∷ full (named (some (text "A")) (p "A" "C" ∷ p "B" "Z" ∷ []) (p "A" "B" ∷ p "C" "Z" ∷ [])) (bare "Z") (some (sub "C" ∷ tra "Z" ∷ []))
+    ∷ []
+
+-- a whole record; its pairs exchanged; a name that is not used; a byte after the last body; all zeros
+abbrev pub layouts : List Example
+layouts =
+    layout (2 ∷ 2 ∷ 2 ∷ 0 ∷ 0 ∷ 1 ∷ 1 ∷ 1 ∷ 0 ∷ 1 ∷ 1 ∷ 0 ∷ []) "ab" (some (named (some (text "b")) (p "a" "b" ∷ p "b" "a" ∷ []) []))
+    ∷ layout (2 ∷ 2 ∷ 2 ∷ 0 ∷ 0 ∷ 1 ∷ 1 ∷ 1 ∷ 1 ∷ 0 ∷ 0 ∷ 1 ∷ []) "ab" none
+    ∷ layout (2 ∷ 2 ∷ 0 ∷ 0 ∷ 0 ∷ 1 ∷ 1 ∷ 1 ∷ []) "ab" none
+    ∷ layout (1 ∷ 1 ∷ 0 ∷ 0 ∷ 0 ∷ 1 ∷ []) "ab" none
+    ∷ layout [] "" (some empty)
+    ∷ []
+
+-- strict lines, the first the specification's own
+abbrev pub lines : List Example
+lines =
+    line "H\tVN:Z:1.0" Fine
+    ∷ line "H" Fine
+    ∷ line "H\tab:f:-1.5e+3\tcd:B:c,1,-2,+.5" Fine
+    ∷ line "H\tab:f:1.\tcd:i:1" (Faulty 1)
+    ∷ line "H\tab:i:1\tab:i:2" (Faulty 2)
+    ∷ line "S\tab:i:1" (Faulty 0)
+    ∷ []
+
+-- document 01's example 15
+abbrev pub descriptions : List Example
+descriptions =
+    description (named (some (text "A")) (p "A" "B" ∷ []) []) (bare "B") "p" "q"
+    "Name 1 is for p\nGraph 1 is a subgraph of graph 2\nName 2 is for q\nWith graph names:\n1\tA\n2\tA\n"
+    ∷ []
+
+pub examples-hold : All headers × All tags × All paths × All layouts × All lines × All descriptions
+unfolding fromHeaderLines linesFrom withoutLastEmpty lineFields typedFields typedField gafLine split sameBytes compareBytes compareNumbers judge names insertAll insert comparePairs fromTags nameValue tagValue tagRelations relationsTag moreRelations subgraphPath fullPath bestPath pathFrom firstPath firstOf leaving leavingBy describeRelationship decimal digits legs afterLastEmpty stepLines graphLines strict strictFields fineField matches after nullable valueOf le16s decode isValid ascends shown pairsFrom nameAt encode contents entries pairPlaces placeOf
+examples-hold = (
+  (refl, (refl, (refl, (refl, (refl, (refl, tt)))))),
+  (refl, (refl, (refl, (refl, (refl, tt))))),
+  (refl, (refl, (refl, (refl, tt)))),
+  (refl, (refl, (refl, (refl, (refl, tt))))),
+  (refl, (refl, (refl, (refl, (refl, (refl, tt)))))),
+  (refl, tt),
+)

@@ -1,0 +1,13 @@
+pub mod Text
+pub mod Bytes
+pub mod Numbers
+pub mod Record
+pub mod Layout
+pub mod Reading
+pub mod Writing
+pub mod Path
+pub mod Describe
+pub mod Strict
+pub mod Outcome
+pub mod Statements
+pub mod Examples
