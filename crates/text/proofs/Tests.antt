@@ -1,20 +1,36 @@
--- Laws of tests.
-use mathlib.Core.Path.{_≡_, refl, sym, _∙_}
-use mathlib.Core.Bool.{Bool, true, false, _&&_}
+-- Laws of tests: what a true conjunction, disjunction or `Less` says, and when two tests are one.
+use mathlib.Core.Path.{_≡_, refl, sym}
+use mathlib.Core.Logic.{_⊎_, inl, inr, _↔_}
+use mathlib.Core.Bool.{Bool, true, false, _&&_, _||_}
 use Prim.Native.Nat.{ℕ, _<_}
-use native.Mathlib.Omega.{arith}
 use lib.Dec.{ltb}
-use borrow.Author.Tests.{ltb-true, ltb-false, lt-ltb}
+use borrow.Author.Tests.{ltb-true, lt-ltb}
+use Rattle.model.specs.declared.Order.{Order}
+use Rattle.model.specs.declared.Order.the-variants.{Less, Equal, Greater}
+use Rattle.model.specs.Bytes.{byOrder}
 
-pub and-both : (s t : Bool) → (s && t) ≡ true → (s ≡ true) × (t ≡ true)
-and-both true t e = (refl, e)
-and-both false t e = (e, cc)
+pub both-true : (s t : Bool) → s && t ≡ true → (s ≡ true) × (t ≡ true)
+both-true true t e = (refl, e)
+both-true false t e = (e, cc)
 
--- two tests that hold together are one Bool
-pub ltb-same : (a b c d : ℕ) → (a < b → c < d) → (c < d → a < b) → ltb a b ≡ ltb c d
-ltb-same a b c d f g = go (ltb a b) (ltb c d) refl refl
+pub either-true : (s t : Bool) → s || t ≡ true ↔ (s ≡ true) ⊎ (t ≡ true)
+either-true true t = (λ e. inl refl, λ e. refl)
+either-true false t = (inr, go)
   where
-    go : (t s : Bool) → ltb a b ≡ t → ltb c d ≡ s → ltb a b ≡ ltb c d
-    go true s e p = e ∙ sym (lt-ltb c d (f (ltb-true a b e)))
-    go false true e p = absurd (omega (arith, g (ltb-true c d p), ltb-false a b e))
-    go false false e p = e ∙ sym p
+    go : (false ≡ true) ⊎ (t ≡ true) → t ≡ true
+    go (inl e) = cc
+    go (inr e) = e
+
+pub less-true : (o : Order) → byOrder o true false false ≡ true ↔ o ≡ Less
+less-true Less = (λ e. refl, λ e. refl)
+less-true Equal = (λ e. cc, λ e. cc)
+less-true Greater = (λ e. cc, λ e. cc)
+
+pub same-tests : (s t : Bool) → (s ≡ true → t ≡ true) → (t ≡ true → s ≡ true) → s ≡ t
+same-tests true t f g = sym (f refl)
+same-tests false true f g = g refl
+same-tests false false f g = refl
+
+pub ltb-same : (a b c d : ℕ) → (a < b → c < d) → (c < d → a < b) → ltb a b ≡ ltb c d
+ltb-same a b c d f g =
+    same-tests (ltb a b) (ltb c d) (λ e. lt-ltb c d (f (ltb-true a b e))) (λ e. lt-ltb a b (g (ltb-true c d e)))
