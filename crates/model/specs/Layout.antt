@@ -32,8 +32,12 @@ contents g =
     le16 (length (names g)) ++ le16 (ownPlace (names g) (g .name)) ++ le16 (length (g .subgraph)) ++ le16 (length (g .translation))
     ++ entries 0 (names g) ++ pairPlaces (names g) (g .subgraph) ++ pairPlaces (names g) (g .translation) ++ bodies (names g)
 
+-- every record buffer has this length
+abbrev pub recordLength : ℕ
+recordLength = 32768
+
 unfoldable pub encode : GraphName → Bytes
-encode g = contents g ++ replicate (32768 - length (contents g)) 0
+encode g = contents g ++ replicate (recordLength - length (contents g)) 0
 
 -- what a buffer would mean, were it a record: read straight off, with no test
 unfoldable pub nameAt : Bytes → ℕ → Bytes

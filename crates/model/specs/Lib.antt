@@ -3,6 +3,7 @@ pub mod Bytes
 pub mod Numbers
 pub mod Record
 pub mod Layout
+pub mod Questions
 pub mod Reading
 pub mod Writing
 pub mod Path

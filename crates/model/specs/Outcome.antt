@@ -1,5 +1,5 @@
--- What the operations on record buffers give, from their arguments alone: the number, and what each buffer holds then.
--- Two of each kind are written out. Assumes nothing.
+-- What the readings, the changes and the path questions on record buffers give, from their arguments alone: the number, and what each
+-- buffer holds then. Assumes nothing.
 use mathlib.Core.Bool.{cond, _||_}
 use mathlib.Core.List.{List, [], _++_}
 use mathlib.Core.Option.{Option, some, none}
@@ -8,12 +8,9 @@ use lib.ListN.{length, drop, replicate}
 use lib.Dec.{eqb, leb}
 use Rattle.model.specs.Bytes.{Bytes, isEmpty}
 use Rattle.model.specs.Record.{GraphName, withSubgraph, judge}
-use Rattle.model.specs.Layout.{encode, decode}
+use Rattle.model.specs.Layout.{recordLength, encode, decode}
 use Rattle.model.specs.Reading.{Reading, done, refused, fromHeaderLines}
 use Rattle.model.specs.Path.{Step, subgraphPath, fullPath, pathBytes}
-
-abbrev pub recordLength : ℕ
-recordLength = 32768
 
 -- a number, and a buffer
 pub record Outcome : Type 0 where
