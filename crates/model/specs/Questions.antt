@@ -1,5 +1,5 @@
 -- What the questions about one record or two give, from the buffers alone: the number of a refusal, or the values. Assumes nothing.
-use mathlib.Core.Bool.{Bool, false, cond, _&&_}
+use mathlib.Core.Bool.{Bool, true, false, cond, _&&_}
 use mathlib.Core.List.{List}
 use mathlib.Core.Option.{Option, some, none}
 use Prim.Native.Nat.{ℕ, _+_, _*_}
@@ -15,6 +15,14 @@ use Rattle.model.specs.Layout.{recordLength, placeOf, decode}
 pub data Given (A : Type 0) : Type 0 where
   refuses : ℕ → Given A
   gives : A → Given A
+
+abbrev pub isSome : {A : Type 0} → Option A → Bool
+isSome none = false
+isSome (some a) = true
+
+-- what is wrong with a record buffer, as document 01's number, or 0
+unfoldable pub faultOf : Bytes → ℕ
+faultOf b = cond (eqb (length b) recordLength) (cond (isSome (decode b)) 0 16) 15
 
 -- 0 is done
 abbrev pub numberOf : {A : Type 0} → Given A → ℕ

@@ -1,0 +1,107 @@
+-- What stands where in a record's bytes: counts, names, the own name and pairs, and that each lies within the buffer.
+use mathlib.Core.Path.{_≡_, refl, sym, ap, _∙_}
+use mathlib.Core.Bool.{true}
+use mathlib.Core.List.{[]}
+use mathlib.Core.Option.{some}
+use Prim.Native.Nat.{ℕ, zero, suc, _+_, _*_, _≤_, _<_}
+use native.Mathlib.Omega.{arith}
+use native.Mathlib.Nat.{add-zero}
+use lib.ListN.{length, drop, getD}
+use Rattle.model.specs.declared.Kind.{Kind}
+use Rattle.model.specs.declared.Kind.the-variants.{Subgraph, Translation}
+use Rattle.model.specs.Bytes.{Bytes}
+use Rattle.model.specs.Numbers.{number}
+use Rattle.model.specs.Record.{Pair, GraphName, names}
+use Rattle.model.specs.Layout.{nameAt, pairsFrom, ownAt, shown, decode}
+use Rattle.text.proofs.Places.{getD-member}
+use Rattle.record.specs.Test.{pairsAt, pairsOk, entriesOf, subgraphAt, translationAt, bodiesAt, namesOf}
+use Rattle.record.proofs.Words.{length-pairsAt, getD-pairsAt}
+use Rattle.record.proofs.Entries.{entry-within}
+use Rattle.record.proofs.Places.{under-pair}
+use Rattle.record.proofs.TestLaws.{pairsOk-true}
+use Rattle.model.specs.Questions.{pairsOf}
+use Rattle.record.proofs.Coded.{names-meaning}
+use Rattle.record.proofs.Write.{read}
+use Rattle.record.proofs.ReadWrite.{held-fits, length-names}
+use Rattle.record.proofs.Shown.{nameAt-names, shown-meaning}
+use Rattle.record.proofs.Laws.{decode-held, decode-shown}
+
+-- how many pairs of a kind there are, and where they start
+abbrev pub pairCount : Kind → Bytes → ℕ
+pairCount Subgraph b = number b 4
+pairCount Translation b = number b 6
+
+abbrev pub tableAt : Kind → Bytes → ℕ
+tableAt Subgraph b = subgraphAt b
+tableAt Translation b = translationAt b
+
+-- the pair whose places stand at byte `at`
+abbrev pub pairAt : Bytes → ℕ → Pair
+pairAt b at = record { from = nameAt b (number b at); to = nameAt b (number b (at + 2)) }
+
+length-pairsFrom : (b : Bytes) (at k : ℕ) → length (pairsFrom b at k) ≡ k
+unfolding pairsFrom
+length-pairsFrom b at zero = refl
+length-pairsFrom b at (suc k) = ap suc (length-pairsFrom b (at + 4) k)
+
+getD-pairsFrom : (b : Bytes) (at k i : ℕ) (d : Pair) → i < k → getD (pairsFrom b at k) i d ≡ pairAt b (at + 4 * i)
+unfolding pairsFrom
+getD-pairsFrom b at zero i d h = absurd (omega arith)
+getD-pairsFrom b at (suc k) zero d h = rw add-zero
+getD-pairsFrom b at (suc k) (suc i) d h =
+    let e : at + 4 * suc i ≡ at + 4 + 4 * i = omega arith in
+    rw e (getD-pairsFrom b (at + 4) k i d (omega arith))
+
+module _ (b : Bytes) (g : GraphName) (e : decode b ≡ some g) where
+  -- ------------------------------------------------------------------ names
+
+  pub record-names : names g ≡ namesOf b
+  record-names =
+      let h = decode-held b g e in
+      ap names (sym (decode-shown b g e) ∙ shown-meaning b h) ∙ names-meaning (read b) (held-fits b h)
+
+  pub record-count : length (names g) ≡ number b 0
+  record-count = ap length record-names ∙ length-names b (decode-held b g e)
+
+  pub record-name : (i : ℕ) → i < number b 0 → getD (names g) i [] ≡ nameAt b i
+  record-name i k = rw record-names (sym (nameAt-names b (decode-held b g e) i k))
+
+  pub record-own : g .name ≡ ownAt b (number b 2)
+  unfolding shown
+  record-own = ap (λ (h : GraphName). h .name) (sym (decode-shown b g e))
+
+  -- a name's bytes lie within the buffer, and are few
+  pub name-within : (i : ℕ) → i < number b 0
+      → (bodiesAt b + number b (8 + 4 * i) + number b (8 + 4 * i + 2) ≤ 32768) × (number b (8 + 4 * i + 2) ≤ 256)
+  name-within i k =
+      let h = decode-held b g e in
+      let l = length-pairsAt (number b 0) (drop 8 b) in
+      let w = rw (getD-pairsAt (number b 0) 8 b i k) at (entry-within (entriesOf b) 0 i (h .row) (omega arith)) in
+      (omega arith, w .2)
+
+  -- ------------------------------------------------------------------ pairs
+
+  pub record-pairs : (k : Kind) → pairsOf k g ≡ pairsFrom b (tableAt k b) (pairCount k b)
+  unfolding shown
+  record-pairs Subgraph = ap (λ (h : GraphName). h .subgraph) (sym (decode-shown b g e))
+  record-pairs Translation = ap (λ (h : GraphName). h .translation) (sym (decode-shown b g e))
+
+  pub record-pairCount : (k : Kind) → length (pairsOf k g) ≡ pairCount k b
+  record-pairCount k = rw (record-pairs k) (length-pairsFrom b (tableAt k b) (pairCount k b))
+
+  pub record-pair : (k : Kind) (i : ℕ) (d : Pair) → i < pairCount k b → getD (pairsOf k g) i d ≡ pairAt b (tableAt k b + 4 * i)
+  record-pair k i d h = rw (record-pairs k) (getD-pairsFrom b (tableAt k b) (pairCount k b) i d h)
+
+  -- a pair's places are places of names
+  pub pair-within : (k : Kind) (i : ℕ) → i < pairCount k b
+      → (number b (tableAt k b + 4 * i) < number b 0) × (number b (tableAt k b + 4 * i + 2) < number b 0)
+  pair-within k i h =
+      let ps = pairsAt (pairCount k b) (drop (tableAt k b) b) in
+      let u = pairsOk-true (number b 0) ps .0 (kind-ok k) .0 in
+      let l = length-pairsAt (pairCount k b) (drop (tableAt k b) b) in
+      let m = getD-member (0, 0) ps i (omega arith) in
+      rw (getD-pairsAt (pairCount k b) (tableAt k b) b i h) at (under-pair (number b 0) ps (getD ps i (0, 0)) u m)
+    where
+      kind-ok : (k : Kind) → pairsOk (number b 0) (pairsAt (pairCount k b) (drop (tableAt k b) b)) ≡ true
+      kind-ok Subgraph = decode-held b g e .subgraph
+      kind-ok Translation = decode-held b g e .translation

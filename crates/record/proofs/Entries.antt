@@ -1,0 +1,132 @@
+-- Names and their entries: cutting by entries without gaps undoes writing, and writing undoes cutting.
+use mathlib.Core.Path.{_≡_, refl, ap}
+use mathlib.Core.Bool.{Bool, true, false, cond, _&&_, _||_}
+use mathlib.Core.List.{List, [], _∷_, _++_, append-assoc}
+use Prim.Native.Nat.{ℕ, zero, suc, _+_, _-_, _≤_, _<_}
+use native.Mathlib.Omega.{arith}
+use lib.ListN.{length, take, drop, getD, length-append, length-drop, take-append-drop}
+use lib.Seq.{take-append-seam, drop-append-seam, drop-drop, length-take-le}
+use lib.Dec.{leb, ltb, eqb}
+use borrow.Author.Tests.{eq-eqb, eqb-true, leb-true, le-leb, ltb-false, le-ltb}
+use Rattle.model.specs.Bytes.{Bytes}
+use Rattle.model.specs.Record.{anyLong, bodies}
+use Rattle.model.specs.Layout.{entries}
+use Rattle.text.proofs.Tests.{both-true, either-false}
+use Rattle.record.specs.Test.{bodyEnd, cut, Under}
+use Rattle.record.proofs.Words.{lePairs}
+
+-- start and length of each name as numbers, the first at `start`
+unfoldable pub spans : ℕ → List Bytes → List (ℕ × ℕ)
+spans start [] = []
+spans start (n ∷ ns) = (start, length n) ∷ spans (start + length n) ns
+
+pub lePairs-spans : (start : ℕ) (ns : List Bytes) → lePairs (spans start ns) ≡ entries start ns
+unfolding lePairs spans entries
+lePairs-spans start [] = refl
+lePairs-spans start (n ∷ ns) = rw (lePairs-spans (start + length n) ns)
+
+pub length-spans : (start : ℕ) (ns : List Bytes) → length (spans start ns) ≡ length ns
+unfolding spans
+length-spans start [] = refl
+length-spans start (n ∷ ns) = ap suc (length-spans (start + length n) ns)
+
+pub length-cut : (es : List (ℕ × ℕ)) (b : Bytes) → length (cut es b) ≡ length es
+unfolding cut
+length-cut [] b = refl
+length-cut (e ∷ es) b = ap suc (length-cut es (drop (e .1) b))
+
+-- ------------------------------------------------------------------ from names
+
+pub cut-spans : (start : ℕ) (ns : List Bytes) (r : Bytes) → cut (spans start ns) (bodies ns ++ r) ≡ ns
+unfolding cut spans
+cut-spans start [] r = refl
+cut-spans start (n ∷ ns) r =
+    rw (append-assoc n (bodies ns) r, take-append-seam n (bodies ns ++ r), drop-append-seam n (bodies ns ++ r), cut-spans (start + length n) ns r)
+
+short : (m : ℕ) (t : Bool) → ltb 256 m || t ≡ false → (m ≤ 256) × (t ≡ false)
+short m t e = let (s, t) = either-false (ltb 256 m) t e in (ltb-false 256 m s, t)
+
+pub bodyEnd-spans : (start : ℕ) (ns : List Bytes) → anyLong ns ≡ false → bodyEnd start (spans start ns) ≡ start + length (bodies ns)
+unfolding bodyEnd spans
+bodyEnd-spans start [] h = omega arith
+bodyEnd-spans start (n ∷ ns) h =
+    let p = short (length n) (anyLong ns) h in
+    rw (eq-eqb start start refl, le-leb (length n) 256 (p .0), bodyEnd-spans (start + length n) ns (p .1), length-append n (bodies ns)) (omega arith)
+
+pub under-spans : (start : ℕ) (ns : List Bytes) → anyLong ns ≡ false → start + length (bodies ns) < 65536 → Under 65536 (spans start ns)
+unfolding Under spans
+under-spans start [] h k = tt
+under-spans start (n ∷ ns) h k =
+    let p = short (length n) (anyLong ns) h in
+    let l = length-append n (bodies ns) in
+    (omega arith, omega arith, under-spans (start + length n) ns (p .1) (omega arith))
+
+-- ------------------------------------------------------------------ from entries
+
+within : (t : Bool) (x : ℕ) → cond t x 32768 ≤ 22520 → (t ≡ true) × (x ≤ 22520)
+within true x h = (refl, h)
+within false x h = absurd (omega arith)
+
+-- what bodyEnd says of the first entry and of the others
+first-entry : (e : ℕ × ℕ) (es : List (ℕ × ℕ)) (at : ℕ) → bodyEnd at (e ∷ es) ≤ 22520
+    → (e .0 ≡ at) × (e .1 ≤ 256) × (bodyEnd (at + e .1) es ≤ 22520) × (bodyEnd at (e ∷ es) ≡ bodyEnd (at + e .1) es)
+unfolding bodyEnd
+first-entry e es at h =
+    let p = within (eqb (e .0) at && leb (e .1) 256) (bodyEnd (at + e .1) es) h in
+    let q = both-true (eqb (e .0) at) (leb (e .1) 256) (p .0) in
+    (eqb-true (e .0) at (q .0), leb-true (e .1) 256 (q .1), p .1, rw (p .0))
+
+at-most : (es : List (ℕ × ℕ)) (at : ℕ) → bodyEnd at es ≤ 22520 → at ≤ bodyEnd at es
+at-most [] at h = unfold bodyEnd in omega arith
+at-most (e ∷ es) at h = let p = first-entry e es at h in omega (arith, at-most es (at + e .1) (p .2))
+
+-- names cut by entries without gaps have those entries and are short; behind them stands the rest
+pub record Cut (es : List (ℕ × ℕ)) (at : ℕ) (b : Bytes) : Type 0 where
+  pub entries : spans at (cut es b) ≡ es
+  pub short : anyLong (cut es b) ≡ false
+  pub whole : bodies (cut es b) ++ drop (bodyEnd at es - at) b ≡ b
+
+pub cut-holds : (es : List (ℕ × ℕ)) (at : ℕ) (b : Bytes) → bodyEnd at es ≤ 22520 → 22520 ≤ at + length b → Cut es at b
+unfolding spans cut
+cut-holds [] at b h k = record { entries = refl; short = refl; whole = unfold bodyEnd in let z : at - at ≡ 0 = omega arith in rw z }
+cut-holds (e ∷ es) at b h k =
+    let p = first-entry e es at h in
+    let m = at-most es (at + e .1) (p .2) in
+    let l : length (take (e .1) b) ≡ e .1 = length-take-le (e .1) b (omega arith) in
+    let z : bodyEnd at (e ∷ es) - at ≡ e .1 + (bodyEnd (at + e .1) es - (at + e .1)) = omega arith in
+    let rest = cut-holds es (at + e .1) (drop (e .1) b) (p .2) (rw length-drop (omega arith)) in
+    record {
+      entries = rw (l, rest .entries, ← p .0);
+      short = rw (l, le-ltb 256 (e .1) (p .1)) (rest .short);
+      whole =
+          rw (append-assoc, z, ← drop-drop (bodyEnd (at + e .1) es - (at + e .1)) (e .1) b, rest .whole)
+          (take-append-drop (e .1) b);
+    }
+
+-- an entry lies between the first start and the end of the bodies, and is short
+pub entry-within : (es : List (ℕ × ℕ)) (at i : ℕ) → bodyEnd at es ≤ 22520 → i < length es
+    → (at ≤ getD es i (0, 0) .0) × (getD es i (0, 0) .0 + getD es i (0, 0) .1 ≤ bodyEnd at es) × (getD es i (0, 0) .1 ≤ 256)
+entry-within [] at i h k = absurd (omega arith)
+entry-within (e ∷ es) at zero h k =
+    let p = first-entry e es at h in
+    let m = at-most es (at + e .1) (p .2) in
+    (omega arith, omega arith, p .1)
+entry-within (e ∷ es) at (suc i) h k =
+    let p = first-entry e es at h in
+    let r = entry-within es (at + e .1) i (p .2) (omega arith) in
+    (omega arith, omega arith, r .2)
+
+-- a name by its entry
+pub getD-cut : (es : List (ℕ × ℕ)) (at : ℕ) (b : Bytes) (i : ℕ) → bodyEnd at es ≤ 22520 → i < length es
+    → getD (cut es b) i [] ≡ take (getD es i (0, 0) .1) (drop (getD es i (0, 0) .0 - at) b)
+unfolding cut
+getD-cut [] at b i h k = absurd (omega arith)
+getD-cut (e ∷ es) at b zero h k =
+    let p = first-entry e es at h in
+    let z : e .0 - at ≡ 0 = omega arith in
+    rw z
+getD-cut (e ∷ es) at b (suc i) h k =
+    let p = first-entry e es at h in
+    let w = entry-within es (at + e .1) i (p .2) (omega arith) in
+    let z : getD es i (0, 0) .0 - at ≡ e .1 + (getD es i (0, 0) .0 - (at + e .1)) = omega arith in
+    rw (z, ← drop-drop (getD es i (0, 0) .0 - (at + e .1)) (e .1) b) (getD-cut es (at + e .1) (drop (e .1) b) i (p .2) (omega arith))

@@ -1,0 +1,16 @@
+pub mod Words
+pub mod Steps
+pub mod Marks
+pub mod Entries
+pub mod Places
+pub mod TestLaws
+pub mod Held
+pub mod Names
+pub mod Sizes
+pub mod Coded
+pub mod Write
+pub mod ReadWrite
+pub mod Shown
+pub mod Laws
+pub mod Access
+pub mod Refusals

@@ -1,0 +1,151 @@
+-- A buffer of bytes passes the test exactly if it is what is written for a form that fits, and reading gives that form back.
+use mathlib.Core.Path.{_≡_, sym, ap, _∙_}
+use mathlib.Core.Bool.{true}
+use mathlib.Core.List.{List, [], _∷_, _++_}
+use Prim.Native.Nat.{ℕ, _+_, _-_, _*_, _≤_}
+use native.Mathlib.Omega.{arith}
+use native.Mathlib.Nat.{zero-add, sub-zero}
+use lib.ListN.{length, take, drop, replicate, length-append, length-drop, length-replicate, take-append-drop}
+use lib.Seq.{drop-drop, getD-drop, drop-append-seam}
+use Rattle.model.specs.Bytes.{Bytes}
+use Rattle.model.specs.Numbers.{number}
+use Rattle.model.specs.Record.{bodies}
+use Rattle.record.specs.Test.{pairsAt, pairsOk, bodyEnd, entriesOf, subgraphAt, translationAt, subgraphOf, translationOf, bodiesAt, namesOf, Under}
+use Rattle.record.proofs.Words.{AllBytes, under-weaken, length-pairsAt, lePairs-pairsAt}
+use Rattle.record.proofs.Held.{Held}
+use Rattle.record.proofs.Entries.{spans, length-spans, length-cut, cut-spans, bodyEnd-spans, under-spans, Cut, cut-holds}
+use Rattle.record.proofs.TestLaws.{pairsOk-true, zeros-replicate, zeros-only}
+use Rattle.record.proofs.Coded.{Coded, Fits}
+use Rattle.record.proofs.Write.{parts, size, ending, write, read, length-parts, Parts, parts-read}
+
+-- ------------------------------------------------------------------ reading what was written
+
+module _ (c : Coded) (f : Fits c) where
+  read-parts : Parts (write c) (c .own) (spans 0 (c .names)) (c .subgraph) (c .translation) (bodies (c .names) ++ ending c)
+  unfolding write
+  read-parts =
+      let l = length-spans 0 (c .names) in
+      parts-read (c .own) (spans 0 (c .names)) (c .subgraph) (c .translation) (bodies (c .names) ++ ending c)
+      (unfold Under in (omega arith, omega arith, (omega arith, omega arith, tt)))
+      (under-spans 0 (c .names) (f .short) (omega arith))
+      (small (c .subgraph) (f .subgraph))
+      (small (c .translation) (f .translation))
+    where
+      small : (ps : List (ℕ × ℕ)) → pairsOk (length (c .names)) ps ≡ true → Under 65536 ps
+      small ps e = under-weaken (length (c .names)) 65536 ps (omega arith) (pairsOk-true (length (c .names)) ps .0 e .0)
+
+  count-read : number (write c) 0 ≡ length (c .names)
+  count-read = read-parts .count ∙ length-spans 0 (c .names)
+
+  bodyEnd-read : bodyEnd 0 (entriesOf (write c)) ≡ length (bodies (c .names))
+  bodyEnd-read = rw (read-parts .entries, bodyEnd-spans 0 (c .names) (f .short)) (zero-add (length (bodies (c .names))))
+
+  names-read : namesOf (write c) ≡ c .names
+  names-read = rw (read-parts .entries, read-parts .rest) (cut-spans 0 (c .names) (ending c))
+
+  pub read-write : read (write c) ≡ c
+  read-write i = record { names = names-read i; own = read-parts .own i; subgraph = read-parts .subgraph i; translation = read-parts .translation i }
+
+  length-write : length (write c) ≡ 32768
+  unfolding write
+  length-write = simp (length-parts, length-append, length-replicate, length-spans) (omega arith)
+
+  pub write-held : Held (write c)
+  write-held =
+      record {
+        long = length-write;
+        count = rw count-read (f .count);
+        own = rw (count-read, read-parts .own) (f .own);
+        subgraphs = rw (read-parts .subgraphs) (f .subgraphs);
+        translations = rw (read-parts .translations) (f .translations);
+        row = rw bodyEnd-read (f .room);
+        subgraph = rw (read-parts .subgraph, count-read) (f .subgraph);
+        translation = rw (read-parts .translation, count-read) (f .translation);
+        order = rw names-read (f .order);
+        used = rw (read-parts .subgraph, read-parts .translation, read-parts .own, count-read) (f .used);
+        rest =
+            rw (
+              ← drop-drop (bodyEnd 0 (entriesOf (write c))) (bodiesAt (write c)) (write c),
+              read-parts .rest,
+              bodyEnd-read,
+              drop-append-seam (bodies (c .names)) (ending c),
+            )
+            (zeros-replicate (32768 - size c));
+      }
+
+-- ------------------------------------------------------------------ writing what was read
+
+rejoin : (a k : ℕ) (b : Bytes) → take k (drop a b) ++ drop (a + k) b ≡ drop a b
+rejoin a k b = rw (← drop-drop k a b) (take-append-drop k (drop a b))
+
+bytes-drop : (a : ℕ) (b : Bytes) → AllBytes b → AllBytes (drop a b)
+bytes-drop a b h i = rw getD-drop (h (a + i))
+
+head-pairs : (b : Bytes) → pairsAt 2 b ≡ (number b 0, number b 2) ∷ (number b 4, number b 6) ∷ []
+unfolding pairsAt
+head-pairs b = simp getD-drop
+
+-- a buffer with room for its parts is made of them
+parts-of : (b : Bytes) → AllBytes b → bodiesAt b ≤ length b
+    → parts (number b 2) (entriesOf b) (subgraphOf b) (translationOf b) (drop (bodiesAt b) b) ≡ b
+unfolding parts
+parts-of b h k =
+    let s = subgraphAt b in
+    let t = translationAt b in
+    let e : bodiesAt b ≡ t + 4 * number b 6 = omega arith in
+    rw (
+      length-pairsAt (number b 0) (drop 8 b),
+      length-pairsAt (number b 4) (drop s b),
+      length-pairsAt (number b 6) (drop t b),
+      ← head-pairs b,
+      lePairs-pairsAt 2 b h (omega arith),
+      lePairs-pairsAt (number b 0) (drop 8 b) (bytes-drop 8 b h) (rw length-drop (omega arith)),
+      lePairs-pairsAt (number b 4) (drop s b) (bytes-drop s b h) (rw length-drop (omega arith)),
+      lePairs-pairsAt (number b 6) (drop t b) (bytes-drop t b h) (rw length-drop (omega arith)),
+      e,
+      rejoin t (4 * number b 6) b,
+      rejoin s (4 * number b 4) b,
+      rejoin 8 (4 * number b 0) b,
+    ) (take-append-drop 8 b)
+
+module _ (b : Bytes) (h : Held b) where
+  names-cut : Cut (entriesOf b) 0 (drop (bodiesAt b) b)
+  names-cut = cut-holds (entriesOf b) 0 (drop (bodiesAt b) b) (h .row) (rw length-drop (omega arith))
+
+  pub length-names : length (namesOf b) ≡ number b 0
+  length-names = length-cut (entriesOf b) (drop (bodiesAt b) b) ∙ length-pairsAt (number b 0) (drop 8 b)
+
+  bodyEnd-names : bodyEnd 0 (entriesOf b) ≡ length (bodies (namesOf b))
+  bodyEnd-names =
+      ap (bodyEnd 0) (sym (names-cut .entries))
+      ∙ bodyEnd-spans 0 (namesOf b) (names-cut .short)
+      ∙ zero-add (length (bodies (namesOf b)))
+
+  pub held-fits : Fits (read b)
+  held-fits = record {
+    count = rw length-names (h .count);
+    own = rw length-names (h .own);
+    subgraphs = rw length-pairsAt (h .subgraphs);
+    translations = rw length-pairsAt (h .translations);
+    short = names-cut .short;
+    room = rw (← bodyEnd-names) (h .row);
+    subgraph = rw length-names (h .subgraph);
+    translation = rw length-names (h .translation);
+    order = h .order;
+    used = rw length-names (h .used);
+  }
+
+  pub write-read : AllBytes b → write (read b) ≡ b
+  unfolding write
+  write-read a =
+      let es = entriesOf b in
+      let X = drop (bodiesAt b) b in
+      let Z = drop (bodyEnd 0 es) X in
+      let cleared : Z ≡ replicate (length Z) 0 = zeros-only Z (rw drop-drop (h .rest)) in
+      let whole : bodies (namesOf b) ++ Z ≡ X = rw sub-zero at (names-cut .whole) in
+      let l = length-names in
+      let s = length-pairsAt (number b 4) (drop (subgraphAt b) b) in
+      let t = length-pairsAt (number b 6) (drop (translationAt b) b) in
+      let e = bodyEnd-names in
+      let left : 32768 - size (read b) ≡ length Z = simp length-drop (omega arith) in
+      rw (names-cut .entries, left, ← cleared, whole) (parts-of b a (omega arith))

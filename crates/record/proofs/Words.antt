@@ -1,0 +1,84 @@
+-- Runs of pairs of two-byte numbers: their bytes, reading them, and that each undoes the other.
+use mathlib.Core.Path.{_≡_, refl, ap}
+use mathlib.Core.List.{List, [], _∷_, _++_}
+use Prim.Native.Nat.{ℕ, zero, suc, _+_, _*_, _/_, _%_, _≤_, _<_}
+use native.Mathlib.Omega.{arith}
+use native.Mathlib.Nat.{add-zero}
+use lib.ListN.{length, take, drop, getD}
+use lib.Seq.{drop-drop, getD-drop}
+use Rattle.model.specs.Bytes.{Bytes}
+use Rattle.model.specs.Numbers.{le16, number}
+use Rattle.record.specs.Test.{pairsAt, Under}
+
+-- the bytes of a list of pairs
+unfoldable pub lePairs : List (ℕ × ℕ) → Bytes
+lePairs [] = []
+lePairs (p ∷ ps) = le16 (p .0) ++ (le16 (p .1) ++ lePairs ps)
+
+-- every entry is a byte
+abbrev pub AllBytes : Bytes → Type 0
+AllBytes b = (i : ℕ) → getD b i 0 < 256
+
+pub under-weaken : (m n : ℕ) (ps : List (ℕ × ℕ)) → m ≤ n → Under m ps → Under n ps
+unfolding Under
+under-weaken m n [] h u = tt
+under-weaken m n (p ∷ ps) h u = (omega arith, omega arith, under-weaken m n ps h (u .2))
+
+pub length-lePairs : (ps : List (ℕ × ℕ)) → length (lePairs ps) ≡ 4 * length ps
+unfolding lePairs
+length-lePairs [] = refl
+length-lePairs (p ∷ ps) = omega (arith, length-lePairs ps)
+
+pub length-pairsAt : (n : ℕ) (b : Bytes) → length (pairsAt n b) ≡ n
+unfolding pairsAt
+length-pairsAt zero b = refl
+length-pairsAt (suc n) b = ap suc (length-pairsAt n (drop 4 b))
+
+whole : (x : ℕ) → x < 65536 → x % 256 + 256 * (x / 256 % 256) ≡ x
+whole x h = omega arith
+
+low : (x y : ℕ) → x < 256 → (x + 256 * y) % 256 ≡ x
+low x y h = omega arith
+
+high : (x y : ℕ) → x < 256 → y < 256 → (x + 256 * y) / 256 % 256 ≡ y
+high x y h k = omega arith
+
+-- reading what was written
+pub pairsAt-lePairs : (ps : List (ℕ × ℕ)) (r : Bytes) → Under 65536 ps → pairsAt (length ps) (lePairs ps ++ r) ≡ ps
+unfolding pairsAt lePairs Under
+pairsAt-lePairs [] r u = refl
+pairsAt-lePairs (p ∷ ps) r u = rw (whole (p .0) (u .0), whole (p .1) (u .1), pairsAt-lePairs ps r (u .2))
+
+-- writing what was read
+pub lePairs-pairsAt : (n : ℕ) (b : Bytes) → AllBytes b → 4 * n ≤ length b → lePairs (pairsAt n b) ≡ take (4 * n) b
+unfolding pairsAt lePairs
+lePairs-pairsAt zero b h k = refl
+lePairs-pairsAt (suc n) [] h k = absurd (omega arith)
+lePairs-pairsAt (suc n) (x ∷ []) h k = absurd (omega arith)
+lePairs-pairsAt (suc n) (x ∷ y ∷ []) h k = absurd (omega arith)
+lePairs-pairsAt (suc n) (x ∷ y ∷ z ∷ []) h k = absurd (omega arith)
+lePairs-pairsAt (suc n) (x ∷ y ∷ z ∷ w ∷ r) h k =
+    let e : 4 * suc n ≡ suc (suc (suc (suc (4 * n)))) = omega arith in
+    rw (
+      e,
+      low x y (h 0),
+      high x y (h 0) (h 1),
+      low z w (h 2),
+      high z w (h 2) (h 3),
+      lePairs-pairsAt n r (λ i. h (suc (suc (suc (suc i))))) (omega arith),
+    )
+
+-- one step at a place
+pub pairsAt-step : (n at : ℕ) (b : Bytes) → pairsAt (suc n) (drop at b) ≡ (number b at, number b (at + 2)) ∷ pairsAt n (drop (at + 4) b)
+unfolding pairsAt
+pairsAt-step n at b =
+    let e : at + 2 + 1 ≡ at + 3 = omega arith in
+    simp (getD-drop, drop-drop, add-zero, e)
+
+pub getD-pairsAt : (n at : ℕ) (b : Bytes) (i : ℕ) → i < n
+    → getD (pairsAt n (drop at b)) i (0, 0) ≡ (number b (at + 4 * i), number b (at + 4 * i + 2))
+getD-pairsAt zero at b i h = absurd (omega arith)
+getD-pairsAt (suc n) at b zero h = rw (pairsAt-step n at b, add-zero)
+getD-pairsAt (suc n) at b (suc i) h =
+    let e : at + 4 * suc i ≡ at + 4 + 4 * i = omega arith in
+    rw (pairsAt-step n at b, e) (getD-pairsAt n (at + 4) b i (omega arith))

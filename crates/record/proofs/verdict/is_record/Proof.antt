@@ -1,0 +1,146 @@
+-- A part that fails refuses the buffer; with all others right the zeros decide.
+use mathlib.Core.Path.{_≡_, sym, _∙_}
+use Prim.Native.Nat.{ℕ}
+use mathlib.Core.Bool.{true}
+use lib.ListN.{length}
+use borrow.Author.Tests.{not-true, not-false}
+use Rattle.model.specs.Bytes.{Bytes}
+use Rattle.model.specs.Numbers.{number}
+use Rattle.model.specs.Layout.{decode}
+use Rattle.model.specs.Questions.{isSome}
+use Rattle.record.specs.Test.{countsOk, isRecord}
+use Rattle.record.proofs.Laws.{is-record}
+use Rattle.record.proofs.Refusals.{Counted, counted, refuse-length, refuse-counts, refuse-bodies, refuse-tables, zeros-decide}
+use native.Mathlib.Omega.{arith}
+use borrow.Author.Needs.{needs}
+use Rattle.record.proofs.verdict.is_record.Statement.{statement}
+use Rattle.record.proofs.verdict.is_record.Tie as tie
+
+-- the test is the definition's, of a slice of bytes
+tested : (c : tie.After-shared-slice-known) → isRecord (c .before .args .b .now) ≡ isSome (decode (c .before .args .b .now))
+tested c = is-record (c .before .args .b .now) (λ i. omega (arith, c .shared-slice-known .given i))
+
+-- what is known once the four counts are read
+module _ (r : tie.After-read164) where
+  abbrev b : Bytes
+  b = r .before .before .before .before .before .before .args .b .now
+
+  abbrev n : ℕ
+  n = r .before .before .before .read16 .result
+
+  abbrev own : ℕ
+  own = r .before .before .read162 .result
+
+  abbrev s : ℕ
+  s = r .before .read163 .result
+
+  abbrev t : ℕ
+  t = r .read164 .result
+
+  abbrev en : n ≡ number b 0
+  en = r .before .before .before .read16 .ensures .0
+
+  abbrev eo : own ≡ number b 2
+  eo = r .before .before .read162 .ensures .0
+
+  abbrev es : s ≡ number b 4
+  es = r .before .read163 .ensures .0
+
+  abbrev et : t ≡ number b 6
+  et = r .read164 .ensures .0
+
+  long : length b ≡ 32768
+  long = r .before .before .before .before .if1 .left
+
+  verdict : isSome (decode b) ≡ isRecord b
+  verdict = sym (tested (r .before .before .before .before .before))
+
+counts-true : (c : tie.Else2) → countsOk (n (c .before .before)) (own (c .before .before)) (s (c .before .before)) (t (c .before .before)) ≡ true
+counts-true c = sym (c .before .counts-ok .ensures) ∙ not-false (c .before .counts-ok .result) (c .if2 .left)
+
+counts : (c : tie.Else2) → Counted (n (c .before .before)) (own (c .before .before)) (s (c .before .before)) (t (c .before .before))
+counts c = counted _ _ _ _ (counts-true c)
+
+returns : tie.Need-returns
+returns c = sym (sym (tested (c .before)) ∙ refuse-length (c .before .before .args .b .now) (c .if1 .taken))
+
+read16-requires : tie.Need-read16-requires
+read16-requires c κs = search needs
+
+read16-requires-2 : tie.Need-read16-requires-2
+read16-requires-2 c κs = search needs
+
+read16-requires-3 : tie.Need-read16-requires-3
+read16-requires-3 c κs = search needs
+
+read16-requires-4 : tie.Need-read16-requires-4
+read16-requires-4 c κs = search needs
+
+counts-ok-requires : tie.Need-counts-ok-requires
+counts-ok-requires c κs = search needs
+
+returns-2 : tie.Need-returns-2
+returns-2 c = let r = c .before .before in sym (verdict r ∙ refuse-counts (b r) (n r) (own r) (s r) (t r) (en r) (eo r) (es r) (et r) (sym (c .before .counts-ok .ensures) ∙ not-true (c .before .counts-ok .result) (c .if2 .taken)))
+
+body-end-requires : tie.Need-body-end-requires
+body-end-requires c κs = let k = counts c in omega arith
+
+returns-3 : tie.Need-returns-3
+returns-3 c = let r = c .before .before .before .before in sym (verdict r ∙ refuse-bodies (b r) (n r) (own r) (s r) (t r) (en r) (eo r) (es r) (et r) (rw (← c .before .body-end .ensures) (c .if3 .taken)))
+
+tables-ok-requires : tie.Need-tables-ok-requires
+tables-ok-requires c κs = let k = counts (c .before .before) in omega arith
+
+returns-4 : tie.Need-returns-4
+returns-4 c = let r = c .before .before .before .before .before .before in sym (verdict r ∙ refuse-tables (b r) (n r) (own r) (s r) (t r) (en r) (eo r) (es r) (et r) (sym (c .before .tables-ok .ensures) ∙ not-true (c .before .tables-ok .result) (c .if4 .taken)))
+
+add-zeros-from : tie.Need-add-zeros-from
+add-zeros-from c = let k = counts (c .before .before .before .before) in omega arith
+
+add-zeros-from-2 : tie.Need-add-zeros-from-2
+add-zeros-from-2 c = let k = counts (c .before .before .before .before) in omega arith
+
+mul-zeros-from : tie.Need-mul-zeros-from
+mul-zeros-from c = let k = counts (c .before .before .before .before) in omega arith
+
+add-zeros-from-3 : tie.Need-add-zeros-from-3
+add-zeros-from-3 c = let k = counts (c .before .before .before .before) in omega arith
+
+add-zeros-from-4 : tie.Need-add-zeros-from-4
+add-zeros-from-4 c = let k = counts (c .before .before .before .before) in omega arith
+
+zeros-from-requires : tie.Need-zeros-from-requires
+zeros-from-requires c κs = let k = counts (c .before .before .before .before) in omega arith
+
+returns-5 : tie.Need-returns-5
+returns-5 c =
+    let e = c .before .before .before .before .before in
+    let r = e .before .before in
+    let end = c .before .before .before .before .body-end .ensures in
+    let tables = c .before .before .tables-ok in
+    c .zeros-from .ensures
+    ∙ rw end (zeros-decide (b r) (n r) (own r) (s r) (t r) (en r) (eo r) (es r) (et r) (long r) (counts-true e) (rw (← end) (c .before .before .before .if3 .left)) (sym (tables .ensures) ∙ not-false (tables .result) (c .before .if4 .left)))
+    ∙ sym (verdict r)
+
+pub is-record-spec : {M : Type 1} → statement M
+is-record-spec =
+    tie.close
+    (tie.spec
+    returns
+    read16-requires
+    read16-requires-2
+    read16-requires-3
+    read16-requires-4
+    counts-ok-requires
+    returns-2
+    body-end-requires
+    returns-3
+    tables-ok-requires
+    returns-4
+    add-zeros-from
+    add-zeros-from-2
+    mul-zeros-from
+    add-zeros-from-3
+    add-zeros-from-4
+    zeros-from-requires
+    returns-5)

@@ -1,0 +1,224 @@
+// The test of a buffer: whether it is a record, part by part.
+use model::Order;
+use text::read16;
+ghost use mathlib.Core.Path.{_≡_};
+ghost use mathlib.Core.Bool.{true};
+ghost use Prim.Native.Nat.{_+_, _*_, _≤_, _<_};
+ghost use lib.ListN.{length, drop, replicate};
+ghost use Rattle.model.specs.Bytes.{compareBytes};
+ghost use Rattle.model.specs.Record.{ascends};
+ghost use Rattle.record.specs.Test.{pairsAt, Under, bodyEnd, cut, isLess, pairLess, pairOk, pairsOk, isUsed, every, marks, markOwn, isOne, zeros};
+
+// Where the bodies of n names end, counted from the first, if the entries leave no gap and no name is long; else 32768.
+pub(crate) fn body_end(b: &[u8], n: usize) -> usize
+    requires { ⌜ (n ≤ 512) × (8 + 4 * n ≤ length (now b)) ⌝ }
+    ensures { λ r. ⌜ r ≡ bodyEnd 0 (pairsAt n (drop 8 (now (b .entry)))) ⌝ }
+{
+    let mut at = 0;
+    let mut p = 8;
+    let mut left = n;
+    while 0 < left {
+        let start = read16(b, p);
+        let size = read16(b, p + 2);
+        if start != at {
+            return 32768;
+        }
+        if 256 < size {
+            return 32768;
+        }
+        at += size;
+        p += 4;
+        left -= 1;
+    }
+    at
+}
+
+// Whether the pair (a, b) comes before the pair (c, d).
+fn pair_less(a: usize, b: usize, c: usize, d: usize) -> bool
+    ensures { λ r. ⌜ r ≡ pairLess a b c d ⌝ }
+{
+    if a < c {
+        return true;
+    }
+    if a == c {
+        return b < d;
+    }
+    false
+}
+
+// Whether the first of the `left` pairs from `at` on is of places below n, and comes before the next.
+fn pair_ok(b: &[u8], at: usize, left: usize, n: usize) -> bool
+    requires { ⌜ (0 < left) × (at + 4 * left ≤ length (now b)) ⌝ }
+    ensures { λ r. ⌜ r ≡ pairOk n (pairsAt left (drop at (now (b .entry)))) ⌝ }
+{
+    let x = read16(b, at);
+    let y = read16(b, at + 2);
+    if n <= x {
+        return false;
+    }
+    if n <= y {
+        return false;
+    }
+    if left == 1 {
+        return true;
+    }
+    pair_less(x, y, read16(b, at + 4), read16(b, at + 6))
+}
+
+// Whether the `count` pairs from `at` on are of places below n, and ascend.
+pub(crate) fn pairs_ok(b: &[u8], at: usize, count: usize, n: usize) -> bool
+    requires { ⌜ at + 4 * count ≤ length (now b) ⌝ }
+    ensures { λ r. ⌜ r ≡ pairsOk n (pairsAt count (drop at (now (b .entry)))) ⌝ }
+{
+    let mut p = at;
+    let mut left = count;
+    while 0 < left {
+        if !pair_ok(b, p, left, n) {
+            return false;
+        }
+        p += 4;
+        left -= 1;
+    }
+    true
+}
+
+fn is_less(a: &[u8], b: &[u8]) -> bool
+    ensures { λ r. ⌜ r ≡ isLess (compareBytes (now (a .entry)) (now (b .entry))) ⌝ }
+{
+    match text::compare(a, b) {
+        Order::Less => true,
+        Order::Equal => false,
+        Order::Greater => false,
+    }
+}
+
+// Whether the n names whose bodies start at `bodies` ascend.
+pub(crate) fn names_ascend(b: &[u8], n: usize, bodies: usize) -> bool
+    requires { ⌜ (n ≤ 512) × (8 + 4 * n ≤ length (now b)) × (bodies ≤ 32768) ⌝ }
+    ensures { λ r. ⌜ r ≡ ascends compareBytes (cut (pairsAt n (drop 8 (now (b .entry)))) (drop bodies (now (b .entry)))) ⌝ }
+{
+    let mut p = 8;
+    let mut q = bodies;
+    let mut left = n;
+    while 1 < left {
+        let size = read16(b, p + 2);
+        let next = read16(b, p + 6);
+        if !is_less(text::part(b, q, size), text::part(b, q + size, next)) {
+            return false;
+        }
+        q += size;
+        p += 4;
+        left -= 1;
+    }
+    true
+}
+
+// Marks both places of each of the `count` pairs from `at` on.
+fn mark_pairs(used: &mut [u8], b: &[u8], at: usize, count: usize)
+    requires { ⌜ (at + 4 * count ≤ length (now b)) × Under (length (now used)) (pairsAt count (drop at (now b))) ⌝ }
+    ensures { λ _. ⌜ now (used .exit) ≡ marks (pairsAt count (drop at (now (b .entry)))) (now (used .entry)) ⌝ }
+{
+    let mut p = at;
+    let mut left = count;
+    while 0 < left {
+        let x = read16(b, p);
+        let y = read16(b, p + 2);
+        used[x] = 1;
+        used[y] = 1;
+        p += 4;
+        left -= 1;
+    }
+}
+
+// Whether each of the first n bytes is 1.
+fn all_marked(used: &[u8], n: usize) -> bool
+    requires { ⌜ n ≤ length (now used) ⌝ }
+    ensures { λ r. ⌜ r ≡ every (isOne (now (used .entry))) n ⌝ }
+{
+    let mut all = true;
+    let mut i = 0;
+    while i < n {
+        all = all & (used[i] == 1);
+        i += 1;
+    }
+    all
+}
+
+// Whether the 256 bytes from `at` on are zero.
+fn zero_block(b: &[u8], at: usize) -> bool
+    requires { ⌜ at + 256 ≤ length (now b) ⌝ }
+    ensures { λ r. ⌜ (r ≡ true → zeros (drop at (now (b .entry))) ≡ zeros (drop (at + 256) (now (b .entry)))) ⌝ }
+{
+    let mut zero = true;
+    for k in 0..256 {
+        zero = zero & (b[at + k] == 0);
+    }
+    zero
+}
+
+// A place from `at` on before which all is zero: at a block of 256 bytes that is not, or at the last that is not whole.
+fn skip_zeros(b: &[u8], at: usize) -> usize
+    requires { ⌜ at ≤ length (now b) ⌝ }
+    ensures { λ r. ⌜ (r ≤ length (now (b .entry))) × (zeros (drop at (now (b .entry))) ≡ zeros (drop r (now (b .entry)))) ⌝ }
+{
+    let mut i = at;
+    while i + 256 <= b.len() && zero_block(b, i) {
+        i += 256;
+    }
+    i
+}
+
+// Whether all bytes from `at` on are zero.
+pub(crate) fn zeros_from(b: &[u8], at: usize) -> bool
+    requires { ⌜ at ≤ length (now b) ⌝ }
+    ensures { λ r. ⌜ r ≡ zeros (drop at (now (b .entry))) ⌝ }
+{
+    let mut i = skip_zeros(b, at);
+    while i < b.len() {
+        if b[i] != 0 {
+            return false;
+        }
+        i += 1;
+    }
+    true
+}
+
+// No place marked, of the most there can be.
+fn no_marks() -> [u8; 512]
+    ensures { λ r. ⌜ r ≡ replicate 512 0 ⌝ }
+{
+    [0; 512]
+}
+
+// Marks the own place, if there is one.
+fn mark_own(used: &mut [u8], own: usize)
+    requires { ⌜ own ≤ length (now used) ⌝ }
+    ensures { λ _. ⌜ now (used .exit) ≡ markOwn own (now (used .entry)) ⌝ }
+{
+    if 0 < own {
+        used[own - 1] = 1;
+    }
+}
+
+// Whether every place below n is used: it is the own place, whose number is one more, or stands in one of the pairs, those of s from
+// `subgraph` on or those of t from `translation` on.
+pub(crate) fn all_used(
+    b: &[u8],
+    n: usize,
+    own: usize,
+    subgraph: usize,
+    s: usize,
+    translation: usize,
+    t: usize,
+) -> bool
+    requires { ⌜ (n ≤ 512) × (own ≤ n) × (subgraph + 4 * s ≤ length (now b)) × (translation + 4 * t ≤ length (now b)) ⌝ }
+    requires { ⌜ Under n (pairsAt s (drop subgraph (now b))) × Under n (pairsAt t (drop translation (now b))) ⌝ }
+    ensures { λ r. ⌜ r ≡ every (isUsed own (pairsAt s (drop subgraph (now (b .entry)))) (pairsAt t (drop translation (now (b .entry))))) n ⌝ }
+{
+    let mut space = no_marks();
+    let used: &mut [u8] = &mut space;
+    mark_own(used, own);
+    mark_pairs(used, b, subgraph, s);
+    mark_pairs(used, b, translation, t);
+    all_marked(used, n)
+}

@@ -1,0 +1,83 @@
+// Whether a buffer is a record, from the tests of its parts; and the number of what is wrong with it.
+use crate::test::all_used;
+use crate::test::body_end;
+use crate::test::names_ascend;
+use crate::test::pairs_ok;
+use crate::test::zeros_from;
+use text::read16;
+ghost use mathlib.Core.Path.{_≡_};
+ghost use Prim.Native.Nat.{_≤_};
+ghost use lib.ListN.{length};
+ghost use Rattle.model.specs.Layout.{decode};
+ghost use Rattle.model.specs.Questions.{isSome, faultOf};
+ghost use Rattle.record.specs.Test.{countsOk, tablesOk};
+
+// Whether the pairs of both kinds are right, the names ascend and all are used, in a buffer whose counts are within the sizes.
+fn tables_ok(b: &[u8], n: usize, own: usize, s: usize, t: usize) -> bool
+    requires { ⌜ (n ≤ 512) × (own ≤ n) × (s ≤ 1024) × (t ≤ 1024) × (length (now b) ≡ 32768) ⌝ }
+    ensures { λ r. ⌜ r ≡ tablesOk (now (b .entry)) n own s t ⌝ }
+{
+    let subgraph = 8 + 4 * n;
+    let translation = subgraph + 4 * s;
+    let bodies = 8 + 4 * (n + s + t);
+    if !pairs_ok(b, subgraph, s, n) {
+        return false;
+    }
+    if !pairs_ok(b, translation, t, n) {
+        return false;
+    }
+    if !names_ascend(b, n, bodies) {
+        return false;
+    }
+    all_used(b, n, own, subgraph, s, translation, t)
+}
+
+// Whether the four counts are within the sizes, and the own place within the names.
+fn counts_ok(n: usize, own: usize, s: usize, t: usize) -> bool
+    ensures { λ r. ⌜ r ≡ countsOk n own s t ⌝ }
+{
+    if 512 < n {
+        return false;
+    }
+    if n < own {
+        return false;
+    }
+    if 1024 < s {
+        return false;
+    }
+    t <= 1024
+}
+
+// Whether a buffer is a record.
+pub fn is_record(b: &[u8]) -> bool
+    ensures { λ r. ⌜ r ≡ isSome (decode (now (b .entry))) ⌝ }
+{
+    if b.len() != 32768 {
+        return false;
+    }
+    let n = read16(b, 0);
+    let own = read16(b, 2);
+    let s = read16(b, 4);
+    let t = read16(b, 6);
+    if !counts_ok(n, own, s, t) {
+        return false;
+    }
+    let end = body_end(b, n);
+    if 22520 < end {
+        return false;
+    }
+    if !tables_ok(b, n, own, s, t) {
+        return false;
+    }
+    zeros_from(b, 8 + 4 * (n + s + t) + end)
+}
+
+// What is wrong with a buffer, as a number: 15 for its length, 16 for its contents, 0 for nothing.
+pub fn fault(b: &[u8]) -> u32
+    ensures { λ r. ⌜ r ≡ faultOf (now (b .entry)) ⌝ }
+{
+    if b.len() != 32768 {
+        return 15;
+    }
+    if is_record(b) { 0 } else { 16 }
+}
