@@ -24,6 +24,11 @@ isSome (some a) = true
 unfoldable pub faultOf : Bytes → ℕ
 faultOf b = cond (eqb (length b) recordLength) (cond (isSome (decode b)) 0 16) 15
 
+-- of two: 15 of either, then 16 of one's own, then of the other
+unfoldable pub faultOfBoth : Bytes → Bytes → ℕ
+faultOfBoth b c =
+    cond (eqb (length b) recordLength && eqb (length c) recordLength) (cond (isSome (decode b) && isSome (decode c)) 0 16) 15
+
 -- 0 is done
 abbrev pub numberOf : {A : Type 0} → Given A → ℕ
 numberOf (refuses n) = n
@@ -38,11 +43,10 @@ abbrev pub decoded : {A : Type 0} → Option GraphName → (GraphName → Given 
 decoded none f = refuses 16
 decoded (some g) f = f g
 
--- 15 first, then 16
+-- 15 first, then 16; of two records likewise
 unfoldable pub asked : {A : Type 0} → Bytes → (GraphName → A) → Given A
 asked b f = cond (eqb (length b) recordLength) (decoded (decode b) (λ g. gives (f g))) (refuses 15)
 
--- of two records: 15 of either, then 16 of one's own, then of the other
 unfoldable pub askedBoth : {A : Type 0} → Bytes → Bytes → (GraphName → GraphName → A) → Given A
 askedBoth b c f =
     cond (eqb (length b) recordLength && eqb (length c) recordLength)
@@ -91,9 +95,12 @@ pub record PairParts : Type 0 where
   pub from : Part
   pub to : Part
 
+abbrev pub pairParts : GraphName → Pair → PairParts
+pairParts g p = record { from = partOf g (p .from); to = partOf g (p .to) }
+
 -- the pair of a kind at a place, likewise
 unfoldable pub pairAtIn : Kind → Bytes → ℕ → Given (Option PairParts)
-pairAtIn k b i = asked b λ g. mapped (λ (p : Pair). record { from = partOf g (p .from); to = partOf g (p .to) }) (getElem? (pairsOf k g) i)
+pairAtIn k b i = asked b λ g. mapped (pairParts g) (getElem? (pairsOf k g) i)
 
 -- both named, and by the same name
 abbrev pub sameName : Option Bytes → Option Bytes → Bool

@@ -14,7 +14,7 @@ use Rattle.model.specs.Numbers.{number}
 use Rattle.model.specs.Record.{Pair, GraphName, names}
 use Rattle.model.specs.Layout.{nameAt, pairsFrom, ownAt, shown, decode}
 use Rattle.text.proofs.Places.{getD-member}
-use Rattle.record.specs.Test.{pairsAt, pairsOk, entriesOf, subgraphAt, translationAt, bodiesAt, namesOf}
+use Rattle.record.specs.Test.{pairsAt, pairsOk, entriesOf, bodiesAt, namesOf, pairCount, tableAt}
 use Rattle.record.proofs.Words.{length-pairsAt, getD-pairsAt}
 use Rattle.record.proofs.Entries.{entry-within}
 use Rattle.record.proofs.Places.{under-pair}
@@ -25,15 +25,6 @@ use Rattle.record.proofs.Write.{read}
 use Rattle.record.proofs.ReadWrite.{held-fits, length-names}
 use Rattle.record.proofs.Shown.{nameAt-names, shown-meaning}
 use Rattle.record.proofs.Laws.{decode-held, decode-shown}
-
--- how many pairs of a kind there are, and where they start
-abbrev pub pairCount : Kind → Bytes → ℕ
-pairCount Subgraph b = number b 4
-pairCount Translation b = number b 6
-
-abbrev pub tableAt : Kind → Bytes → ℕ
-tableAt Subgraph b = subgraphAt b
-tableAt Translation b = translationAt b
 
 -- the pair whose places stand at byte `at`
 abbrev pub pairAt : Bytes → ℕ → Pair

@@ -14,3 +14,5 @@ pub mod Shown
 pub mod Laws
 pub mod Access
 pub mod Refusals
+pub mod Parts
+pub mod Answers

@@ -5,6 +5,8 @@ use mathlib.Core.List.{List, [], _∷_}
 use Prim.Native.Nat.{ℕ, zero, suc, _+_, _*_, _<_}
 use lib.ListN.{length, take, drop, set, getD}
 use lib.Dec.{leb, ltb, eqb}
+use Rattle.model.specs.declared.Kind.{Kind}
+use Rattle.model.specs.declared.Kind.the-variants.{Subgraph, Translation}
 use Rattle.model.specs.declared.Order.{Order}
 use Rattle.model.specs.Bytes.{Bytes, byOrder, compareBytes}
 use Rattle.model.specs.Numbers.{number}
@@ -94,6 +96,15 @@ translationAt b = 8 + 4 * number b 0 + 4 * number b 4
 
 abbrev pub bodiesAt : Bytes → ℕ
 bodiesAt b = 8 + 4 * (number b 0 + number b 4 + number b 6)
+
+-- how many pairs of a kind there are, and where they start
+abbrev pub pairCount : Kind → Bytes → ℕ
+pairCount Subgraph b = number b 4
+pairCount Translation b = number b 6
+
+abbrev pub tableAt : Kind → Bytes → ℕ
+tableAt Subgraph b = subgraphAt b
+tableAt Translation b = translationAt b
 
 abbrev pub subgraphOf : Bytes → List (ℕ × ℕ)
 subgraphOf b = pairsAt (number b 4) (drop (subgraphAt b) b)

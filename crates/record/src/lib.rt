@@ -1,6 +1,28 @@
 // Records: the test of a buffer, and reading one by one what a record holds.
+//
+// A public function of `answer` or `verdict` takes any slice of any length and equals a definition of `model/specs/Questions.antt`;
+// where its answer is an enum, `specs/Answers.antt` says what each case means. Those of `layout` are for the layers above, which have
+// tested the buffer.
+mod answer;
+mod layout;
 mod test;
 mod verdict;
 
+pub use answer::GivenBool;
+pub use answer::GivenCounts;
+pub use answer::GivenPair;
+pub use answer::GivenPart;
+pub use answer::counts;
+pub use answer::is_same;
+pub use answer::name;
+pub use answer::name_place;
+pub use answer::pair_place;
+pub use layout::Part;
+pub use layout::bodies_at;
+pub use layout::name_at;
+pub use layout::pair_count;
+pub use layout::part_at;
+pub use layout::table_at;
 pub use verdict::fault;
+pub use verdict::fault_of_both;
 pub use verdict::is_record;

@@ -9,7 +9,7 @@ ghost use mathlib.Core.Path.{_≡_};
 ghost use Prim.Native.Nat.{_≤_};
 ghost use lib.ListN.{length};
 ghost use Rattle.model.specs.Layout.{decode};
-ghost use Rattle.model.specs.Questions.{isSome, faultOf};
+ghost use Rattle.model.specs.Questions.{isSome, faultOf, faultOfBoth};
 ghost use Rattle.record.specs.Test.{countsOk, tablesOk};
 
 // Whether the pairs of both kinds are right, the names ascend and all are used, in a buffer whose counts are within the sizes.
@@ -80,4 +80,20 @@ pub fn fault(b: &[u8]) -> u32
         return 15;
     }
     if is_record(b) { 0 } else { 16 }
+}
+
+// What is wrong with one of two buffers, as a number: 15 for the length of either, then 16, or 0.
+pub fn fault_of_both(b: &[u8], c: &[u8]) -> u32
+    ensures { λ r. ⌜ r ≡ faultOfBoth (now (b .entry)) (now (c .entry)) ⌝ }
+{
+    if b.len() != 32768 {
+        return 15;
+    }
+    if c.len() != 32768 {
+        return 15;
+    }
+    if !is_record(b) {
+        return 16;
+    }
+    if is_record(c) { 0 } else { 16 }
 }

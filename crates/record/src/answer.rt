@@ -1,0 +1,143 @@
+// What a record holds, one by one. Each function takes any slice, and a place past the end gives nothing.
+use crate::layout::name_at;
+use crate::layout::pair_count;
+use crate::layout::part_at;
+use crate::layout::table_at;
+use crate::verdict::fault;
+use crate::verdict::fault_of_both;
+use model::Kind;
+use text::read16;
+ghost use mathlib.Core.Path.{_≡_};
+ghost use Rattle.model.specs.Questions.{countsIn, nameIn, nameAtIn, pairAtIn, isSameIn};
+ghost use Rattle.record.specs.Answers.{countsGiven, partGiven, pairGiven, boolGiven};
+
+// How many names and pairs there are, or the number of a refusal.
+pub enum GivenCounts {
+    Refused(u32),
+    Are {
+        names: usize,
+        subgraph: usize,
+        translation: usize,
+    },
+}
+
+// Where a name stands in the record, or that there is none, or the number of a refusal.
+pub enum GivenPart {
+    Refused(u32),
+    Absent,
+    At { start: usize, size: usize },
+}
+
+// Where the two names of a pair stand in the record, or that there is none, or the number of a refusal.
+pub enum GivenPair {
+    Refused(u32),
+    Absent,
+    At {
+        from_start: usize,
+        from_size: usize,
+        to_start: usize,
+        to_size: usize,
+    },
+}
+
+// Yes or no, or the number of a refusal.
+pub enum GivenBool {
+    Refused(u32),
+    Is(bool),
+}
+
+// How many distinct names and how many pairs of each kind a record holds.
+pub fn counts(b: &[u8]) -> GivenCounts
+    ensures { λ r. ⌜ countsGiven r ≡ countsIn (now (b .entry)) ⌝ }
+{
+    let wrong = fault(b);
+    if wrong != 0 {
+        return GivenCounts::Refused(wrong);
+    }
+    let names = read16(b, 0);
+    let subgraph = read16(b, 4);
+    let translation = read16(b, 6);
+    GivenCounts::Are {
+        names,
+        subgraph,
+        translation,
+    }
+}
+
+// The own name.
+pub fn name(b: &[u8]) -> GivenPart
+    ensures { λ r. ⌜ partGiven r ≡ nameIn (now (b .entry)) ⌝ }
+{
+    let wrong = fault(b);
+    if wrong != 0 {
+        return GivenPart::Refused(wrong);
+    }
+    let own = read16(b, 2);
+    if own == 0 {
+        return GivenPart::Absent;
+    }
+    let p = part_at(b, own - 1);
+    GivenPart::At {
+        start: p.start,
+        size: p.size,
+    }
+}
+
+// The name at a place, in ascending order, counted from 0.
+pub fn name_place(b: &[u8], i: usize) -> GivenPart
+    ensures { λ r. ⌜ partGiven r ≡ nameAtIn (now (b .entry)) i ⌝ }
+{
+    let wrong = fault(b);
+    if wrong != 0 {
+        return GivenPart::Refused(wrong);
+    }
+    if read16(b, 0) <= i {
+        return GivenPart::Absent;
+    }
+    let p = part_at(b, i);
+    GivenPart::At {
+        start: p.start,
+        size: p.size,
+    }
+}
+
+// The pair of a kind at a place, in ascending order, counted from 0.
+pub fn pair_place(b: &[u8], kind: Kind, i: usize) -> GivenPair
+    ensures { λ r. ⌜ pairGiven r ≡ pairAtIn kind (now (b .entry)) i ⌝ }
+{
+    let wrong = fault(b);
+    if wrong != 0 {
+        return GivenPair::Refused(wrong);
+    }
+    if pair_count(b, kind) <= i {
+        return GivenPair::Absent;
+    }
+    let at = table_at(b, kind) + 4 * i;
+    let from = part_at(b, read16(b, at));
+    let to = part_at(b, read16(b, at + 2));
+    GivenPair::At {
+        from_start: from.start,
+        from_size: from.size,
+        to_start: to.start,
+        to_size: to.size,
+    }
+}
+
+// Whether both records are named, by the same name.
+pub fn is_same(b: &[u8], c: &[u8]) -> GivenBool
+    ensures { λ r. ⌜ boolGiven r ≡ isSameIn (now (b .entry)) (now (c .entry)) ⌝ }
+{
+    let wrong = fault_of_both(b, c);
+    if wrong != 0 {
+        return GivenBool::Refused(wrong);
+    }
+    let own = read16(b, 2);
+    let other = read16(c, 2);
+    if own == 0 {
+        return GivenBool::Is(false);
+    }
+    if other == 0 {
+        return GivenBool::Is(false);
+    }
+    GivenBool::Is(text::same(name_at(b, own - 1), name_at(c, other - 1)))
+}
