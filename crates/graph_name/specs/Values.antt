@@ -1,0 +1,35 @@
+-- The numbers that an answer is handed out as: 1 and 0 for yes and no, and 0 beside a part that is not there. Assumes nothing.
+use mathlib.Core.Bool.{Bool, true, false}
+use mathlib.Core.Option.{Option, some, none}
+use Prim.Native.Nat.{ℕ}
+use Rattle.model.specs.Questions.{Part, PairParts}
+
+abbrev pub oneIf : Bool → ℕ
+oneIf true = 1
+oneIf false = 0
+
+abbrev pub isPresent : {A : Type 0} → Option A → ℕ
+isPresent none = 0
+isPresent (some a) = 1
+
+abbrev orZero : {A : Type 0} → (A → ℕ) → Option A → ℕ
+orZero f none = 0
+orZero f (some a) = f a
+
+abbrev pub startOf : Option Part → ℕ
+startOf = orZero (λ (p : Part). p .start)
+
+abbrev pub sizeOf : Option Part → ℕ
+sizeOf = orZero (λ (p : Part). p .size)
+
+abbrev pub fromStart : Option PairParts → ℕ
+fromStart = orZero (λ (p : PairParts). p .from .start)
+
+abbrev pub fromSize : Option PairParts → ℕ
+fromSize = orZero (λ (p : PairParts). p .from .size)
+
+abbrev pub toStart : Option PairParts → ℕ
+toStart = orZero (λ (p : PairParts). p .to .start)
+
+abbrev pub toSize : Option PairParts → ℕ
+toSize = orZero (λ (p : PairParts). p .to .size)

@@ -1,0 +1,12 @@
+// The exported functions: each operation of the library as a function on pointers, lengths and numbers, for C and Rust to call.
+//
+// The result is document 01's number, 0 for done. A number behind a `&mut u64` is written on 0 only. Each promise is an equation with a
+// definition of `model/specs`, on the arguments alone.
+mod records;
+
+pub use records::graph_name_counts;
+pub use records::graph_name_is_same;
+pub use records::graph_name_name;
+pub use records::graph_name_name_at;
+pub use records::graph_name_subgraph_at;
+pub use records::graph_name_translation_at;
