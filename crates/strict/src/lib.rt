@@ -1,0 +1,8 @@
+// The strict reading of a line: `H`, then typed fields, each with a value as its type asks, and no tag twice.
+mod class;
+
+pub use class::is_digit;
+pub use class::is_hex_letter;
+pub use class::is_letter;
+pub use class::is_printable;
+pub use class::is_visible;
