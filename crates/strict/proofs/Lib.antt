@@ -1,2 +1,4 @@
 pub mod Table
 pub mod Regex
+mod Sequences
+mod Numbers

@@ -1,1 +1,3 @@
 pub mod Class
+pub mod Number
+pub mod Value

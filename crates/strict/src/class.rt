@@ -1,7 +1,7 @@
 // The five classes of bytes, by one table.
 ghost use mathlib.Core.Path.{_≡_};
 ghost use Rattle.model.specs.Strict.{digit, hexLetter, letter, visible, printable};
-ghost use Rattle.strict.specs.Class.{Classes};
+ghost use Rattle.strict.specs.Class.{Classes, isOneOf};
 
 // Each byte's classes: 1 a digit, 2 A to F, 4 a letter, 8 from ! to ~, 16 from the space to ~.
 const CLASSES: [u8; 256] = [
@@ -303,4 +303,18 @@ pub fn is_printable(x: u8) -> bool
     ensures { λ r. ⌜ r ≡ printable x ⌝ }
 {
     class_of(x) / 16 % 2 == 1
+}
+
+// Whether a byte is one of some bytes.
+pub fn is_one_of(x: u8, bytes: &[u8]) -> bool
+    ensures { λ r. ⌜ r ≡ isOneOf (now (bytes .entry)) x ⌝ }
+{
+    let mut i = 0;
+    while i < bytes.len() {
+        if bytes[i] == x {
+            return true;
+        }
+        i += 1;
+    }
+    false
 }
