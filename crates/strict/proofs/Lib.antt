@@ -2,3 +2,4 @@ pub mod Table
 pub mod Regex
 mod Sequences
 mod Numbers
+mod Values

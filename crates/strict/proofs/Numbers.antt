@@ -26,7 +26,7 @@ fraction = seq digits exponent
 abbrev pointed : Regex
 pointed = seq (opt (byte 46)) fraction
 
-abbrev item : Regex
+abbrev pub item : Regex
 item = seq (byte 44) float
 
 -- what may follow a number: nothing, or in a list more items

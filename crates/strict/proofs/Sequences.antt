@@ -55,7 +55,7 @@ unfolding matches nullable after
 alt-or p q [] = refl
 alt-or p q (x ∷ s) = alt-or (after x p) (after x q) s
 
-seq-alt : (p q r : Regex) (s : Bytes) → matches (seq (alt p q) r) s ≡ matches (seq p r) s || matches (seq q r) s
+pub seq-alt : (p q r : Regex) (s : Bytes) → matches (seq (alt p q) r) s ≡ matches (seq p r) s || matches (seq q r) s
 unfolding Matches
 seq-alt p q r s =
     same-test (seq (alt p q) r) (alt (seq p r) (seq q r)) s

@@ -1,3 +1,8 @@
+use mathlib.Core.Path.{sym, _∙_}
+use lib.ListN.{length, getD}
+use borrow.Author.Tests.{le-leb, lt-leb, eq-eqb, ne-eqb, not-true, not-false}
+use Rattle.model.specs.Strict.{valueOf}
+use Rattle.strict.proofs.Values.{part-to-end, list-test}
 use borrow.Author.Needs.{needs}
 use Rattle.strict.proofs.value.is_list.Statement.{statement}
 use Rattle.strict.proofs.value.is_list.Tie as tie
@@ -8,7 +13,8 @@ use Rattle.strict.proofs.number.ends_number.Reads as ends-number-reads
 
 -- src/value.rt:55:9
 returns : tie.Need-returns
-returns c = ?
+unfolding valueOf
+returns c = let v = c .before .before .args .v .now in sym (list-test v ∙ rw (lt-leb 2 (length v) (c .if1 .taken)))
 
 -- src/value.rt:57:19
 shared-slice-read-is-one-of : tie.Need-shared-slice-read-is-one-of
@@ -24,7 +30,12 @@ is-one-of-requires c κs = search needs
 
 -- src/value.rt:58:9
 returns-2 : tie.Need-returns-2
-returns-2 c = ?
+unfolding valueOf
+returns-2 c = 
+    let l = c .before .before .before .before in
+    let v = l .before .before .args .v .now in
+    let k = sym (c .before .is-one-of .ensures) ∙ not-true _ (c .if2 .taken) in
+    sym (list-test v ∙ rw (le-leb 2 (length v) (l .if1 .left), k))
 
 -- src/value.rt:60:8
 shared-slice-read-if3 : tie.Need-shared-slice-read-if3
@@ -32,9 +43,16 @@ shared-slice-read-if3 c = search needs
 
 -- src/value.rt:61:9
 returns-3 : tie.Need-returns-3
-returns-3 c = ?
+unfolding valueOf
+returns-3 c =
+    let k = c .before .before in
+    let l = k .before .before .before .before in
+    let v = l .before .before .args .v .now in
+    sym
+    (list-test v
+    ∙ rw
+    (le-leb 2 (length v) (l .if1 .left), sym (k .before .is-one-of .ensures) ∙ not-false _ (k .if2 .left), ne-eqb 44 (getD v 1 0) (λ e. c .if3 .taken (sym e))))
 
--- src/value.rt:63:38
 sub-ends-number : tie.Need-sub-ends-number
 sub-ends-number c = search needs
 
@@ -52,7 +70,18 @@ ends-number-requires c κs = search needs
 
 -- src/value.rt:51:1
 returns-4 : tie.Need-returns-4
-returns-4 c = ?
+unfolding valueOf
+returns-4 c =
+    let j = c .before .before in
+    let k = j .before .before in
+    let l = k .before .before .before .before in
+    let v = l .before .before .args .v .now in
+    c .ends-number .ensures
+    ∙ rw (part-to-end 2 v)
+    (sym
+    (list-test v
+    ∙ rw
+    (le-leb 2 (length v) (l .if1 .left), sym (k .before .is-one-of .ensures) ∙ not-false _ (k .if2 .left), eq-eqb 44 (getD v 1 0) (sym (j .if3 .left)))))
 
 pub is-list-spec : {M : Type 1} → statement M
 is-list-spec =

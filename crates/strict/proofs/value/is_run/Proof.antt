@@ -1,3 +1,16 @@
+use mathlib.Core.Path.{_≡_, refl, sym, ap, _∙_}
+use mathlib.Core.Bool.{true, false, and-true, and-false}
+use lib.Dec.{ltb}
+use borrow.Author.Tests.{not-true, not-false}
+use Rattle.model.specs.Strict.{Class}
+use Prim.Native.Nat.{ℕ, suc, _-_, _<_, _≤_}
+use native.Mathlib.Numerals.{add-one}
+use lib.ListN.{length, drop, getD, drop-of-length-le}
+use lib.Seq.{drop-cons}
+use Rattle.model.specs.Bytes.{Bytes}
+use Rattle.strict.specs.Class.{all}
+use Rattle.strict.specs.Value.{runClass}
+use borrow.Author.Needs.{needs}
 use Rattle.strict.proofs.value.is_run.Statement.{statement}
 use Rattle.strict.proofs.value.is_run.Tie as tie
 use Rattle.strict.proofs.value.is_run.Reads as reads
@@ -5,42 +18,64 @@ use Rattle.strict.proofs.value.is_run.Lts as lts
 use Rattle.strict.proofs.value.in_run.Reads as in-run-reads
 
 abbrev Inv-loop : tie.InvT-loop
-Inv-loop t v i₀ i = ?
+Inv-loop t v i₀ i = (i ≤ length v) × (all (runClass t) v ≡ all (runClass t) (drop i v))
 
 abbrev μ-loop : tie.MeasureT-loop
-μ-loop t v i₀ i = ?
+μ-loop t v i₀ i = length v - i
 
 -- src/value.rt:41:5
+module _ (c : Class) (v : Bytes) (i : ℕ) where
+  one-in : i < length v → c (getD v i 0) ≡ true → all c (drop i v) ≡ all c (drop (suc i) v)
+  one-in h e = rw (drop-cons v i 0 h, e)
+
+  one-out : i < length v → c (getD v i 0) ≡ false → all c (drop i v) ≡ false
+  one-out h e = rw (drop-cons v i 0 h, e)
+
+  all-in : length v ≤ i → all c (drop i v) ≡ true
+  all-in h = rw (drop-of-length-le v h)
+
 loop-holds : tie.Need-loop-holds Inv-loop μ-loop
-loop-holds c = ?
+loop-holds c = search needs
 
 -- src/value.rt:42:23
 shared-slice-read-in-run : tie.Need-shared-slice-read-in-run Inv-loop μ-loop
-shared-slice-read-in-run c = ?
+shared-slice-read-in-run c = search needs
 
 -- src/value.rt:42:13
 in-run-requires : tie.Need-in-run-requires Inv-loop μ-loop
-in-run-requires c κs = ?
+in-run-requires c κs = search needs
 
 -- src/value.rt:43:13
 returns : tie.Need-returns Inv-loop μ-loop
-returns c = ?
+returns c =
+    let l = c .before .before .before .before in
+    let a = l .before .before .args in
+    rw
+    (l .loop .inv .1 ∙ one-out (runClass (a .t)) (a .v .now) (l .loop .i) (search needs) (sym (c .before .in-run .ensures) ∙ not-true _ (c .if1 .taken)))
+    (sym (and-false (ltb 0 (length (a .v .now)))))
 
 -- src/value.rt:45:9
 add-i : tie.Need-add-i Inv-loop μ-loop
-add-i c = ?
+add-i c = search needs
 
 -- src/value.rt:41:5
 loop-less : tie.Need-loop-less Inv-loop μ-loop
-loop-less c = ?
+loop-less c = search needs
 
 -- src/value.rt:41:5
 loop-again : tie.Need-loop-again Inv-loop μ-loop
-loop-again c = ?
+loop-again c =
+    let l = c .before .before .before .before in
+    let a = l .before .before .args in
+    let e = one-in (runClass (a .t)) (a .v .now) (l .loop .i) (search needs) (sym (c .before .in-run .ensures) ∙ not-false _ (c .if1 .left)) in
+    (search needs, rw add-one (l .loop .inv .1 ∙ e))
 
 -- src/value.rt:37:1
 returns-2 : tie.Need-returns-2 Inv-loop μ-loop
-returns-2 c = ?
+returns-2 c =
+    let l = c .before in
+    let a = l .before .before .args in
+    rw (l .loop .inv .1 ∙ all-in (runClass (a .t)) (a .v .now) (l .loop .i) (search needs)) (sym (and-true (ltb 0 (length (a .v .now)))))
 
 pub is-run-spec : {M : Type 1} → statement M
 is-run-spec =
