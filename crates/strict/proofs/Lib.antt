@@ -3,3 +3,4 @@ pub mod Regex
 mod Sequences
 mod Numbers
 mod Values
+mod Tags

@@ -46,9 +46,9 @@ unfolding Matches
 seq-seq p q r s =
     same-test (seq (seq p q) r) (seq p (seq q r)) s
     (λ m. let n = m .3 in
-        (n .0, n .1 ++ m .1, m .2 ∙ ap (λ (l : Bytes). l ++ m .1) (n .2) ∙ append-assoc (n .0) (n .1) (m .1), n .3, (n .1, m .1, refl, n .4, m .4)))
+    (n .0, n .1 ++ m .1, m .2 ∙ ap (λ (l : Bytes). l ++ m .1) (n .2) ∙ append-assoc (n .0) (n .1) (m .1), n .3, (n .1, m .1, refl, n .4, m .4)))
     (λ m. let n = m .4 in
-        (m .0 ++ n .0, n .1, m .2 ∙ ap (λ (l : Bytes). m .0 ++ l) (n .2) ∙ sym (append-assoc (m .0) (n .0) (n .1)), (m .0, n .0, refl, m .3, n .3), n .4))
+    (m .0 ++ n .0, n .1, m .2 ∙ ap (λ (l : Bytes). m .0 ++ l) (n .2) ∙ sym (append-assoc (m .0) (n .0) (n .1)), (m .0, n .0, refl, m .3, n .3), n .4))
 
 pub alt-or : (p q : Regex) (s : Bytes) → matches (alt p q) s ≡ matches p s || matches q s
 unfolding matches nullable after
@@ -72,8 +72,8 @@ unfolding Matches
 seq-plus p r s =
     same-test (seq (plus p) r) (seq p (alt r (seq (plus p) r))) s (λ m. go (m .1) (m .2) (m .3) (m .4))
     (λ m. ⊎-elim (λ n. (m .0, m .1, m .2, last (m .3), n))
-        (λ n. (m .0 ++ n .0, n .1, m .2 ∙ ap (λ (l : Bytes). m .0 ++ l) (n .2) ∙ sym (append-assoc (m .0) (n .0) (n .1)), more refl (m .3) (n .3), n .4))
-        (m .4))
+    (λ n. (m .0 ++ n .0, n .1, m .2 ∙ ap (λ (l : Bytes). m .0 ++ l) (n .2) ∙ sym (append-assoc (m .0) (n .0) (n .1)), more refl (m .3) (n .3), n .4))
+    (m .4))
   where
     go : {a : Bytes} (b : Bytes) → s ≡ a ++ b → Repeats (Matches p) a → Matches r b → Matches (seq p (alt r (seq (plus p) r))) s
     go {a} b e (last m) n = (a, b, e, m, inl n)

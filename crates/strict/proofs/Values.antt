@@ -72,10 +72,11 @@ one-class c r = (refl, seq-one c r)
 
 pub two-classes : (c d : Class) → IsByte (alt (one c) (one d)) (λ x. c x || d x)
 unfolding matches nullable
-two-classes c d r =
-    (refl
-    , λ x s.
-    seq-alt (one c) (one d) r (x ∷ s) ∙ rw (seq-one c r x s, seq-one d r x s) (sym (and-or-distrib-right (c x) (d x) (matches r s))))
+two-classes c d r = (
+  refl,
+  λ x s.
+      seq-alt (one c) (one d) r (x ∷ s) ∙ rw (seq-one c r x s, seq-one d r x s) (sym (and-or-distrib-right (c x) (d x) (matches r s))),
+)
 
 -- a letter of a number's width, then the items
 pub list-test : (v : Bytes)

@@ -1,3 +1,4 @@
 pub mod Class
 pub mod Number
 pub mod Value
+pub mod Tag

@@ -1,6 +1,7 @@
 // The strict reading of a line: `H`, then typed fields, each with a value as its type asks, and no tag twice.
 mod class;
 mod number;
+mod tag;
 mod value;
 
 pub use class::is_digit;
@@ -8,5 +9,5 @@ pub use class::is_hex_letter;
 pub use class::is_letter;
 pub use class::is_printable;
 pub use class::is_visible;
-pub use value::fine_value;
 pub use value::fine_field;
+pub use value::fine_value;

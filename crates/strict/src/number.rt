@@ -1,7 +1,6 @@
 // Numbers as the specification writes them, and lists of them, read byte by byte in one pass.
 use crate::class::is_digit;
 use crate::class::is_one_of;
-
 ghost use mathlib.Core.Path.{_≡_};
 ghost use mathlib.Core.Bool.{cond, _&&_};
 ghost use lib.Dec.{eqb};
@@ -86,14 +85,26 @@ fn step(list: bool, q: Number, x: u8) -> Number
     ensures { λ r. ⌜ r ≡ next list q x ⌝ }
 {
     match q {
-        Number::Float => if is_sign(x) { Number::Unsigned } else { point_or_digit(x) },
+        Number::Float => if is_sign(x) {
+            Number::Unsigned
+        } else {
+            point_or_digit(x)
+        },
         Number::Unsigned => point_or_digit(x),
         Number::Whole => exponent_or_comma(list, x, point_or_digit(x)),
         Number::Point => digit_to(x, Number::Fraction),
         Number::Fraction => exponent_or_comma(list, x, digit_to(x, Number::Fraction)),
-        Number::Integer => if is_sign(x) { Number::UnsignedInteger } else { digit_to(x, Number::Digits) },
+        Number::Integer => if is_sign(x) {
+            Number::UnsignedInteger
+        } else {
+            digit_to(x, Number::Digits)
+        },
         Number::UnsignedInteger => digit_to(x, Number::Digits),
-        Number::Digits => if is_comma(list, x) { Number::Float } else { digit_to(x, Number::Digits) },
+        Number::Digits => if is_comma(list, x) {
+            Number::Float
+        } else {
+            digit_to(x, Number::Digits)
+        },
         Number::Refused => Number::Refused,
     }
 }

@@ -1,7 +1,12 @@
 // Values of the seven types, and typed fields.
-use crate::class::{is_digit, is_hex_letter, is_letter, is_one_of, is_printable, is_visible};
-use crate::number::{Number, ends_number};
-
+use crate::class::is_digit;
+use crate::class::is_hex_letter;
+use crate::class::is_letter;
+use crate::class::is_one_of;
+use crate::class::is_printable;
+use crate::class::is_visible;
+use crate::number::Number;
+use crate::number::ends_number;
 ghost use mathlib.Core.Path.{_≡_};
 ghost use mathlib.Core.Bool.{_&&_};
 ghost use lib.Dec.{ltb};

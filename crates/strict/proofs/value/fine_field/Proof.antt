@@ -84,19 +84,20 @@ fine-value-requires c κs = search needs
 -- src/value.rt:81:1
 returns-6 : tie.Need-returns-6
 unfolding fineField
-returns-6 c = 
+returns-6 c =
     let e5 = c .before .before .before in
     let e4 = e5 .before .before in
     let e3 = e4 .before .before in
     let e2 = e3 .before .before .before in
     let e1 = e2 .before .before .before in
     let f = e1 .before .before .args .f .now in
-    rw
-    (le-leb 5 (length f) (e1 .if1 .left)
-    , sym (e2 .before .is-letter .ensures) ∙ not-false _ (e2 .if2 .left)
-    , sym (e3 .before .is-letter2 .ensures) ∙ not-false _ (e3 .if3 .left)
-    , eq-eqb (getD f 2 0) 58 (e4 .if4 .left)
-    , eq-eqb (getD f 4 0) 58 (e5 .if5 .left))
+    rw (
+      le-leb 5 (length f) (e1 .if1 .left),
+      sym (e2 .before .is-letter .ensures) ∙ not-false _ (e2 .if2 .left),
+      sym (e3 .before .is-letter2 .ensures) ∙ not-false _ (e3 .if3 .left),
+      eq-eqb (getD f 2 0) 58 (e4 .if4 .left),
+      eq-eqb (getD f 4 0) 58 (e5 .if5 .left),
+    )
     (c .fine-value .ensures ∙ rw (part-to-end 5 f))
 
 pub fine-field-spec : {M : Type 1} → statement M

@@ -61,7 +61,7 @@ returns-5 c = rw (c .before .match .keys5) (c .is-list .ensures)
 
 -- src/value.rt:67:1
 returns-6 : tie.Need-returns-6
-returns-6 c = 
+returns-6 c =
     let k = c .match .rest in
     let a = c .before .before .args in
     sym (no-value (a .t) (a .v .now) (k .0 .0 .0 .0 .1) (k .0 .0 .0 .1) (k .0 .0 .1) (k .0 .1) (k .1))

@@ -31,7 +31,7 @@ is-one-of-requires c κs = search needs
 -- src/value.rt:58:9
 returns-2 : tie.Need-returns-2
 unfolding valueOf
-returns-2 c = 
+returns-2 c =
     let l = c .before .before .before .before in
     let v = l .before .before .args .v .now in
     let k = sym (c .before .is-one-of .ensures) ∙ not-true _ (c .if2 .taken) in
