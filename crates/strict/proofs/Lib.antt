@@ -4,3 +4,4 @@ mod Sequences
 mod Numbers
 mod Values
 mod Tags
+mod Lines
