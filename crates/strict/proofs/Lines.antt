@@ -1,16 +1,16 @@
 -- How far the reading of a line's fields has come, and what one field more makes of it. Assumes nothing.
 use mathlib.Core.Path.{_≡_, refl, sym, ap, _∙_}
-use mathlib.Core.Bool.{Bool, true, false, cond, _&&_, not}
+use mathlib.Core.Bool.{Bool, true, false, cond, _&&_}
 use mathlib.Core.List.{List, [], _∷_}
 use Prim.Native.Nat.{ℕ, suc, _+_, _-_, _≤_, _<_}
 use native.Mathlib.Omega.{arith}
 use native.Mathlib.Numerals.{add-one}
-use lib.Dec.{eqb, ltb}
+use lib.Dec.{eqb}
 use lib.ListN.{length, getD, take, drop, set, replicate}
 use borrow.Author.Tests.{lt-ltb, le-ltb}
 use Rattle.model.specs.declared.Strictness.the-variants.{Fine, Faulty}
 use Rattle.model.specs.Text.{text}
-use Rattle.model.specs.Bytes.{Bytes, sameBytes, indexOf, split}
+use Rattle.model.specs.Bytes.{Bytes, sameBytes, indexOf}
 use Rattle.model.specs.Strict.{fineField, strictFields, strictParts, strict}
 use Rattle.text.proofs.Tests.{both-true}
 use Rattle.text.proofs.Split.{index-within, split-from}
@@ -52,12 +52,12 @@ module _ (line : Bytes) (at e : ℕ) (h : at < length line) (f : e ≡ at + 1 + 
         → Reading line end seen′ e (number + 1)
     read-on t d g seen′ s =
         let fine = both-true (fineField (fieldAt line at e)) _ (sym g ∙ d) in
-        record
-        { within = field-within
-        ; few = omega (arith, r .few)
-        ; tags = take 2 (fieldAt line at e) ∷ r .tags
-        ; marked = rw (s, d) (marked-field (fieldAt line at e) seen (r .tags) (fine .0) (r .marked))
-        ; same = read-field t g ∙ rw (d, add-one number)
+        record {
+          within = field-within;
+          few = omega (arith, r .few);
+          tags = take 2 (fieldAt line at e) ∷ r .tags;
+          marked = rw (s, d) (marked-field (fieldAt line at e) seen (r .tags) (fine .0) (r .marked));
+          same = read-field t g ∙ rw (d, add-one number);
         }
 
     pub read-faulty : (t : Bool) → t ≡ false → t ≡ fineField (fieldAt line at e) && eqb (getD seen (fieldPlace (fieldAt line at e)) 0) 0
@@ -66,13 +66,13 @@ module _ (line : Bytes) (at e : ℕ) (h : at < length line) (f : e ≡ at + 1 + 
 
 module _ (line : Bytes) (end : ℕ) (seen : Bytes) where
   pub read-none : end ≤ length line → seen ≡ replicate 2704 0 → Reading line end seen end 1
-  read-none h e = record
-      { within = h
-      ; few = omega arith
-      ; tags = []
-      ; marked = marked-none seen e
-      ; same = refl
-      }
+  read-none h e = record {
+    within = h;
+    few = omega arith;
+    tags = [];
+    marked = marked-none seen e;
+    same = refl;
+  }
 
   pub read-all : (at number : ℕ) → length line ≤ at → Reading line end seen at number → strictFields 1 [] (fieldsAfter line end) ≡ Fine
   unfolding strictFields

@@ -1,8 +1,8 @@
 -- Reading a number byte by byte tests the same texts as its expression: each state has an expression, and a byte leads from one to the next.
 -- Assumes nothing.
-use mathlib.Core.Path.{_≡_, refl, sym, ap, _∙_, subst}
-use mathlib.Core.Bool.{Bool, true, false, cond, _&&_, _||_, false≢true, and-eq-true-iff, and-true, and-false, or-false, or-assoc, and-assoc, or-comm, or-self}
-use mathlib.Core.List.{List, [], _∷_}
+use mathlib.Core.Path.{_≡_, refl, sym, ap, _∙_}
+use mathlib.Core.Bool.{Bool, true, false, cond, _&&_, _||_, false≢true, and-eq-true-iff, and-true, and-false, or-false, or-assoc, or-comm, or-self}
+use mathlib.Core.List.{[], _∷_}
 use Prim.Native.Nat.{ℕ}
 use lib.Dec.{eqb}
 use borrow.Author.Tests.{eqb-true}
@@ -12,7 +12,7 @@ use Rattle.strict.specs.Class.{isOneOf}
 use Rattle.strict.specs.Number.{signs, exponents, afterSign, afterNumber, next, ends, run}
 use Rattle.strict.specs.declared.number.Number.{Number}
 use Rattle.strict.specs.declared.number.Number.the-variants.{Float, Unsigned, Whole, Point, Fraction, Integer, UnsignedInteger, Digits, Refused}
-use Rattle.strict.proofs.Sequences.{none-fails, seq-end, seq-seq, alt-or, seq-opt, seq-plus, seq-one, seq-oneOf, seq-run}
+use Rattle.strict.proofs.Sequences.{none-fails, seq-seq, alt-or, seq-opt, seq-plus, seq-one, seq-oneOf, seq-run}
 
 abbrev digits : Regex
 digits = plus (one digit)

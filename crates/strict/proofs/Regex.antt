@@ -1,45 +1,29 @@
 -- The test by derivatives is true exactly where a text matches the expression. Assumes nothing.
 use mathlib.Core.Path.{_≡_, refl, sym, ap, _∙_, subst}
 use mathlib.Core.Logic.{_↔_, _⊎_, inl, inr, ⊎-elim}
-use mathlib.Core.Bool.{Bool, true, false, cond, _&&_, _||_, false≢true}
-use mathlib.Core.List.{List, [], _∷_, _++_, append-nil}
+use mathlib.Core.Bool.{Bool, true, false, cond, false≢true}
+use mathlib.Core.List.{[], _∷_, _++_, append-nil}
 use Prim.Native.Nat.{ℕ}
-use native.Mathlib.Omega.{arith}
 use lib.Dec.{T}
-use lib.ListN.{length}
 use Rattle.model.specs.Bytes.{Bytes}
-use Rattle.model.specs.Strict.{Class, Regex, none, empty, one, seq, alt, plus, Repeats, last, more, Matches, nullable, after, matches}
+use Rattle.text.proofs.Tests.{both-true, either-true}
+use Rattle.model.specs.Strict.{Regex, none, empty, one, seq, alt, plus, Repeats, last, more, Matches, nullable, after, matches}
 
-abbrev IsCons : Bytes → Type 0
-IsCons [] = ⊥
-IsCons (x ∷ xs) = Unit {0}
-
--- the empty text matches where `nullable` says so
-and-both : (a b : Bool) → a && b ≡ true → (a ≡ true) × (b ≡ true)
-and-both true b e = (refl, e)
-and-both false b e = absurd (false≢true e)
-
-or-either : (a b : Bool) → a || b ≡ true → (a ≡ true) ⊎ (b ≡ true)
-or-either true b e = inl refl
-or-either false b e = inr e
-
-or-left : {a : Bool} (b : Bool) → a ≡ true → a || b ≡ true
-or-left b e = rw e
-
-or-right : (a : Bool) {b : Bool} → b ≡ true → a || b ≡ true
-or-right true e = refl
-or-right false e = e
-
+-- the empty text matches exactly where `nullable` says so
 nullable-matches : (r : Regex) → nullable r ≡ true → Matches r []
 unfolding nullable Matches
 nullable-matches none e = false≢true e
 nullable-matches empty e = refl
 nullable-matches (one c) e = absurd (false≢true e)
 nullable-matches (seq r s) e =
-    let p = and-both (nullable r) (nullable s) e in ([], [], refl, nullable-matches r (p .0), nullable-matches s (p .1))
+    let p = both-true (nullable r) (nullable s) e in ([], [], refl, nullable-matches r (p .0), nullable-matches s (p .1))
 nullable-matches (alt r s) e =
-    ⊎-elim (λ p. inl (nullable-matches r p)) (λ p. inr (nullable-matches s p)) (or-either (nullable r) (nullable s) e)
+    ⊎-elim (λ p. inl (nullable-matches r p)) (λ p. inr (nullable-matches s p)) (either-true (nullable r) (nullable s) .0 e)
 nullable-matches (plus r) e = last (nullable-matches r e)
+
+abbrev IsCons : Bytes → Type 0
+IsCons [] = ⊥
+IsCons (x ∷ xs) = Unit {0}
 
 -- the parts of the empty text are empty
 nil-parts : (a b : Bytes) → [] ≡ a ++ b → (a ≡ []) × (b ≡ [])
@@ -55,7 +39,7 @@ matches-nullable (seq r s) m =
     let p = nil-parts (m .0) (m .1) (m .2) in
     rw (matches-nullable r (subst (Matches r) (p .0) (m .3)), matches-nullable s (subst (Matches s) (p .1) (m .4)))
 matches-nullable (alt r s) m =
-    ⊎-elim (λ p. or-left (nullable s) (matches-nullable r p)) (λ p. or-right (nullable r) (matches-nullable s p)) m
+    either-true (nullable r) (nullable s) .1 (⊎-elim (λ p. inl (matches-nullable r p)) (λ p. inr (matches-nullable s p)) m)
 matches-nullable (plus r) m = first (λ p. matches-nullable r p) refl m
   where
     first : {t : Bytes} → (Matches r [] → nullable r ≡ true) → t ≡ [] → Repeats (Matches r) t → nullable r ≡ true

@@ -1,23 +1,22 @@
 -- How the test by derivatives goes through sequences, choices and repetitions. Assumes nothing.
 use mathlib.Core.Path.{_≡_, refl, sym, ap, _∙_, subst}
-use mathlib.Core.Logic.{_⊎_, inl, inr, ⊎-elim}
+use mathlib.Core.Logic.{inl, inr, ⊎-elim}
 use mathlib.Core.Bool.{Bool, true, false, cond, _&&_, _||_, and-or-distrib-right}
-use mathlib.Core.List.{List, [], _∷_, _++_, append-nil, append-assoc}
+use mathlib.Core.List.{[], _∷_, _++_, append-nil, append-assoc}
 use Prim.Native.Nat.{ℕ}
 use lib.Dec.{eqb}
 use Rattle.model.specs.Bytes.{Bytes}
 use Rattle.model.specs.Strict.{Class, Regex, none, empty, one, seq, alt, plus, opt, oneOf, Repeats, last, more, Matches, nullable, after, matches}
+use Rattle.text.proofs.Tests.{same-tests}
 use Rattle.strict.specs.Class.{isOneOf}
 use Rattle.strict.proofs.Regex.{matches-exactly}
 
 -- expressions that match the same texts have the same test
 same-test : (r t : Regex) (s : Bytes) → (Matches r s → Matches t s) → (Matches t s → Matches r s) → matches r s ≡ matches t s
-same-test r t s f g = go (matches r s) (matches t s) refl refl
-  where
-    go : (a b : Bool) → matches r s ≡ a → matches t s ≡ b → a ≡ b
-    go true b p q = sym (sym q ∙ matches-exactly t s .1 (f (matches-exactly r s .0 p)))
-    go false true p q = sym p ∙ matches-exactly r s .1 (g (matches-exactly t s .0 q))
-    go false false p q = refl
+same-test r t s f g =
+    let h = matches-exactly r s in
+    let k = matches-exactly t s in
+    same-tests (matches r s) (matches t s) (λ e. k .1 (f (h .0 e))) (λ e. h .1 (g (k .0 e)))
 
 pub none-fails : (s : Bytes) → matches none s ≡ false
 unfolding matches nullable after

@@ -3,16 +3,16 @@ use mathlib.Core.Path.{_≡_, refl, sym, ap, _∙_}
 use mathlib.Core.Logic.{_⊎_, inl, inr, ⊎-elim}
 use mathlib.Core.Bool.{Bool, true, false, cond, _&&_, _||_, not, false≢true}
 use mathlib.Core.List.{List, [], _∷_}
-use Prim.Native.Nat.{ℕ, suc, _+_, _*_, _≤_, _<_}
+use Prim.Native.Nat.{ℕ, _+_, _≤_, _<_}
 use native.Mathlib.Omega.{arith}
-use lib.Dec.{leb, eqb, ltb}
+use lib.Dec.{leb, eqb}
 use lib.ListN.{length, getD, take, set, replicate, length-set, getD-replicate}
 use lib.Seq.{getD-set-same, getD-set-other}
-use borrow.Author.Tests.{leb-true, lt-ltb, le-ltb, eq-eqb, ne-eqb, eqb-true}
+use borrow.Author.Tests.{leb-true, lt-ltb, le-ltb}
 use Rattle.model.specs.Bytes.{Bytes, sameBytes}
 use Rattle.model.specs.Strict.{range, letter, hasTag, fineField}
 use Rattle.text.proofs.Tests.{both-true, either-true}
-use Rattle.text.proofs.Order.{sameBytes-refl, sameBytes-true, sameBytes-false}
+use Rattle.text.proofs.Order.{sameBytes-true}
 use Rattle.strict.specs.Tag.{letterPlace, tagPlace, fieldPlace}
 
 -- the place of a letter, large or small, tells the letter

@@ -1,8 +1,8 @@
 -- The tests of values of one byte, of a run of bytes and of a list, without expressions. Assumes nothing.
-use mathlib.Core.Path.{_≡_, refl, sym, ap, _∙_}
+use mathlib.Core.Path.{_≡_, refl, sym, _∙_}
 use mathlib.Core.Logic.{_⊎_, inl, inr, ⊎-elim}
 use mathlib.Core.Bool.{Bool, true, false, cond, _&&_, _||_, and-false, and-assoc, and-or-distrib-right}
-use mathlib.Core.List.{List, [], _∷_}
+use mathlib.Core.List.{[], _∷_}
 use Prim.Native.Nat.{ℕ, suc, _-_}
 use native.Mathlib.Omega.{arith}
 use lib.Dec.{eqb, leb, ltb}
@@ -11,12 +11,12 @@ use lib.Seq.{take-all}
 use borrow.Author.Tests.{lt-ltb, le-leb, ne-eqb}
 use Rattle.model.specs.Text.{text}
 use Rattle.model.specs.Bytes.{Bytes}
-use Rattle.model.specs.Strict.{Class, Regex, none, empty, one, seq, alt, plus, opt, oneOf, digit, hexLetter, printable, nullable, after, matches, valueOf}
+use Rattle.model.specs.Strict.{Class, Regex, none, empty, one, seq, alt, plus, oneOf, digit, hexLetter, printable, nullable, after, matches, valueOf}
 use Rattle.strict.specs.Class.{isOneOf, all}
 use Rattle.strict.specs.Number.{run}
 use Rattle.strict.specs.Value.{runClass}
 use Rattle.strict.specs.declared.number.Number.the-variants.{Float}
-use Rattle.strict.proofs.Sequences.{none-fails, seq-end, seq-seq, alt-or, seq-alt, seq-plus, seq-one, seq-oneOf}
+use Rattle.strict.proofs.Sequences.{none-fails, seq-end, alt-or, seq-alt, seq-plus, seq-one, seq-oneOf}
 use Rattle.strict.proofs.Numbers.{item, items-step, run-left}
 
 -- a part that goes to the end

@@ -1,6 +1,6 @@
 -- Numbers read byte by byte: the states of the reading, and what each byte makes of them. Assumes nothing.
-use mathlib.Core.Bool.{Bool, true, false, cond, _&&_, _||_}
-use mathlib.Core.List.{List, [], _∷_}
+use mathlib.Core.Bool.{Bool, true, false, cond, _&&_}
+use mathlib.Core.List.{[], _∷_}
 use Prim.Native.Nat.{ℕ}
 use lib.Dec.{eqb}
 use Rattle.model.specs.Text.{text}
@@ -16,9 +16,13 @@ signs = text "-+"
 abbrev pub exponents : Bytes
 exponents = text "eE"
 
+-- after a digit, and nothing else
+abbrev pub afterDigit : ℕ → Number → Number
+afterDigit x q = cond (digit x) q Refused
+
 -- after the sign: the point, or a digit
 abbrev pub afterSign : ℕ → Number
-afterSign x = cond (eqb 46 x) Point (cond (digit x) Whole Refused)
+afterSign x = cond (eqb 46 x) Point (afterDigit x Whole)
 
 -- after a number without an exponent: its exponent, in a list a comma, or else what q says
 abbrev pub afterNumber : Bool → ℕ → Number → Number
@@ -29,11 +33,11 @@ abbrev pub next : Bool → Number → ℕ → Number
 next list Float x = cond (isOneOf signs x) Unsigned (afterSign x)
 next list Unsigned x = afterSign x
 next list Whole x = afterNumber list x (afterSign x)
-next list Point x = cond (digit x) Fraction Refused
-next list Fraction x = afterNumber list x (cond (digit x) Fraction Refused)
-next list Integer x = cond (isOneOf signs x) UnsignedInteger (cond (digit x) Digits Refused)
-next list UnsignedInteger x = cond (digit x) Digits Refused
-next list Digits x = cond (eqb 44 x && list) Float (cond (digit x) Digits Refused)
+next list Point x = afterDigit x Fraction
+next list Fraction x = afterNumber list x (afterDigit x Fraction)
+next list Integer x = cond (isOneOf signs x) UnsignedInteger (afterDigit x Digits)
+next list UnsignedInteger x = afterDigit x Digits
+next list Digits x = cond (eqb 44 x && list) Float (afterDigit x Digits)
 next list Refused x = Refused
 
 -- whether a number may end in a state

@@ -271,42 +271,42 @@ fn class_of(x: u8) -> u8
 }
 
 // Whether a byte is a digit.
-pub fn is_digit(x: u8) -> bool
+pub(crate) fn is_digit(x: u8) -> bool
     ensures { λ r. ⌜ r ≡ digit x ⌝ }
 {
     class_of(x) % 2 == 1
 }
 
 // Whether a byte is one of A to F.
-pub fn is_hex_letter(x: u8) -> bool
+pub(crate) fn is_hex_letter(x: u8) -> bool
     ensures { λ r. ⌜ r ≡ hexLetter x ⌝ }
 {
     class_of(x) / 2 % 2 == 1
 }
 
 // Whether a byte is a letter.
-pub fn is_letter(x: u8) -> bool
+pub(crate) fn is_letter(x: u8) -> bool
     ensures { λ r. ⌜ r ≡ letter x ⌝ }
 {
     class_of(x) / 4 % 2 == 1
 }
 
 // Whether a byte is one of ! to ~.
-pub fn is_visible(x: u8) -> bool
+pub(crate) fn is_visible(x: u8) -> bool
     ensures { λ r. ⌜ r ≡ visible x ⌝ }
 {
     class_of(x) / 8 % 2 == 1
 }
 
 // Whether a byte is one of the space to ~.
-pub fn is_printable(x: u8) -> bool
+pub(crate) fn is_printable(x: u8) -> bool
     ensures { λ r. ⌜ r ≡ printable x ⌝ }
 {
     class_of(x) / 16 % 2 == 1
 }
 
 // Whether a byte is one of some bytes.
-pub fn is_one_of(x: u8, bytes: &[u8]) -> bool
+pub(crate) fn is_one_of(x: u8, bytes: &[u8]) -> bool
     ensures { λ r. ⌜ r ≡ isOneOf (now (bytes .entry)) x ⌝ }
 {
     let mut i = 0;

@@ -1,7 +1,6 @@
 // The strict reading of a line, field by field.
 use crate::tag::is_new_field;
 use model::Strictness;
-
 ghost use mathlib.Core.Path.{_≡_};
 ghost use mathlib.Core.List.{[]};
 ghost use Prim.Native.Nat.{_≤_};

@@ -2,16 +2,14 @@
 use crate::class::is_digit;
 use crate::class::is_one_of;
 ghost use mathlib.Core.Path.{_≡_};
-ghost use mathlib.Core.Bool.{cond, _&&_};
+ghost use mathlib.Core.Bool.{_&&_};
 ghost use lib.Dec.{eqb};
-ghost use Rattle.model.specs.Strict.{digit};
 ghost use Rattle.strict.specs.Class.{isOneOf};
-ghost use Rattle.strict.specs.Number.{signs, exponents, afterSign, afterNumber, next, ends, run};
-ghost use Rattle.strict.specs.declared.number.Number.the-variants.{Float, Refused};
+ghost use Rattle.strict.specs.Number.{signs, exponents, afterDigit, afterSign, afterNumber, next, ends, run};
 
-// What has been read of a number: nothing yet, its sign, digits before the point, the point, digits after it; of an integer, which is also
-// what stands behind an `e`: nothing yet, its sign, digits; or what no number begins with.
-pub enum Number {
+// What has been read of a number: nothing yet, its sign, digits before the point, the point, digits after it; of an integer, as it stands
+// behind an `e` too: nothing yet, its sign, digits. Or else the text is refused.
+pub(crate) enum Number {
     Float,
     Unsigned,
     Whole,
@@ -37,9 +35,9 @@ fn is_exponent(x: u8) -> bool
     is_one_of(x, b"eE")
 }
 
-// What a digit leads to, and nothing else.
-fn digit_to(x: u8, q: Number) -> Number
-    ensures { λ r. ⌜ r ≡ cond (digit x) q Refused ⌝ }
+// The state after a digit is q; after any other byte the text is refused.
+fn after_digit(x: u8, q: Number) -> Number
+    ensures { λ r. ⌜ r ≡ afterDigit x q ⌝ }
 {
     if is_digit(x) {
         return q;
@@ -57,18 +55,18 @@ fn is_comma(list: bool, x: u8) -> bool
     false
 }
 
-// The state after a byte that may be the point, or a digit before it.
-fn point_or_digit(x: u8) -> Number
+// The state after a byte behind the sign: the point, or a digit before it.
+fn after_sign(x: u8) -> Number
     ensures { λ r. ⌜ r ≡ afterSign x ⌝ }
 {
     if x == b'.' {
         return Number::Point;
     }
-    digit_to(x, Number::Whole)
+    after_digit(x, Number::Whole)
 }
 
-// The state after a byte that may begin an exponent or a list's next number; q is the state after any other.
-fn exponent_or_comma(list: bool, x: u8, q: Number) -> Number
+// The state after a byte behind a number that has no exponent yet: its exponent, or a list's comma; after any other byte it is q.
+fn after_number(list: bool, x: u8, q: Number) -> Number
     ensures { λ r. ⌜ r ≡ afterNumber list x q ⌝ }
 {
     if is_exponent(x) {
@@ -88,22 +86,22 @@ fn step(list: bool, q: Number, x: u8) -> Number
         Number::Float => if is_sign(x) {
             Number::Unsigned
         } else {
-            point_or_digit(x)
+            after_sign(x)
         },
-        Number::Unsigned => point_or_digit(x),
-        Number::Whole => exponent_or_comma(list, x, point_or_digit(x)),
-        Number::Point => digit_to(x, Number::Fraction),
-        Number::Fraction => exponent_or_comma(list, x, digit_to(x, Number::Fraction)),
+        Number::Unsigned => after_sign(x),
+        Number::Whole => after_number(list, x, after_sign(x)),
+        Number::Point => after_digit(x, Number::Fraction),
+        Number::Fraction => after_number(list, x, after_digit(x, Number::Fraction)),
         Number::Integer => if is_sign(x) {
             Number::UnsignedInteger
         } else {
-            digit_to(x, Number::Digits)
+            after_digit(x, Number::Digits)
         },
-        Number::UnsignedInteger => digit_to(x, Number::Digits),
+        Number::UnsignedInteger => after_digit(x, Number::Digits),
         Number::Digits => if is_comma(list, x) {
             Number::Float
         } else {
-            digit_to(x, Number::Digits)
+            after_digit(x, Number::Digits)
         },
         Number::Refused => Number::Refused,
     }
@@ -126,8 +124,8 @@ fn may_end(q: Number) -> bool
     }
 }
 
-// Whether v, read on from the state q, ends a number, or in a list the last of its numbers.
-pub fn ends_number(list: bool, q: Number, v: &[u8]) -> bool
+// Whether v, read on from the state q, is a number, or in a list numbers with commas between them.
+pub(crate) fn is_number(list: bool, q: Number, v: &[u8]) -> bool
     ensures { λ r. ⌜ r ≡ run list q (now (v .entry)) ⌝ }
 {
     let mut state = q;

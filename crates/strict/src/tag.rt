@@ -28,7 +28,7 @@ fn tag_place(x: u8, y: u8) -> usize
 }
 
 // Whether f is a typed field with a tag that was not seen; the tag is then marked as seen.
-pub fn is_new_field(f: &[u8], seen: &mut [u8]) -> bool
+pub(crate) fn is_new_field(f: &[u8], seen: &mut [u8]) -> bool
     requires { ⌜ length (now seen) ≡ 2704 ⌝ }
     ensures { λ r. ⌜ r ≡ (fineField (now (f .entry)) && eqb (getD (now (seen .entry)) (fieldPlace (now (f .entry))) 0) 0) ⌝ }
     ensures { λ r. ⌜ now (seen .exit) ≡ cond r (set (now (seen .entry)) (fieldPlace (now (f .entry))) 1) (now (seen .entry)) ⌝ }

@@ -6,7 +6,7 @@ use crate::class::is_one_of;
 use crate::class::is_printable;
 use crate::class::is_visible;
 use crate::number::Number;
-use crate::number::ends_number;
+use crate::number::is_number;
 ghost use mathlib.Core.Path.{_≡_};
 ghost use mathlib.Core.Bool.{_&&_};
 ghost use lib.Dec.{ltb};
@@ -65,7 +65,7 @@ fn is_list(v: &[u8]) -> bool
     if v[1] != b',' {
         return false;
     }
-    ends_number(true, Number::Float, &v[2..])
+    is_number(true, Number::Float, &v[2..])
 }
 
 // Whether v is a value of type t; a byte that is no type has none.
@@ -74,8 +74,8 @@ pub fn fine_value(t: u8, v: &[u8]) -> bool
 {
     match t {
         b'A' => is_one_visible(v),
-        b'i' => ends_number(false, Number::Integer, v),
-        b'f' => ends_number(false, Number::Float, v),
+        b'i' => is_number(false, Number::Integer, v),
+        b'f' => is_number(false, Number::Float, v),
         b'Z' | b'J' | b'H' => is_run(t, v),
         b'B' => is_list(v),
         _ => false,

@@ -1,5 +1,6 @@
-use mathlib.Core.Path.{_≡_, refl, sym, ap, _∙_}
-use Prim.Native.Nat.{ℕ, _+_, _-_, _≤_, _<_}
+-- `line::check_fields` meets its contract. The invariant: the table has the tags of the fields read, and the fields left decide (`Reading`).
+use mathlib.Core.Path.{sym, ap, _∙_}
+use Prim.Native.Nat.{_-_}
 use native.Mathlib.Omega.{arith}
 use lib.ListN.{length}
 use borrow.Author.Needs.{needs}
@@ -7,10 +8,6 @@ use borrow.Author.Tests.{not-true, not-false}
 use Rattle.strict.proofs.Lines.{Reading, field-within, read-on, read-faulty, read-none, read-all}
 use Rattle.strict.proofs.line.check_fields.Statement.{statement}
 use Rattle.strict.proofs.line.check_fields.Tie as tie
-use Rattle.strict.proofs.line.check_fields.Reads as reads
-use Rattle.strict.proofs.line.check_fields.Lts as lts
-use Rattle.strict.proofs.tag.is_new_field.Reads as is-new-field-reads
-use Rattle.text.proofs.find_byte.Reads as find-byte-reads
 
 abbrev Inv-loop : tie.InvT-loop
 Inv-loop line end seen₀ at₀ number₀ seen at number = Reading line end seen at number
@@ -18,48 +15,39 @@ Inv-loop line end seen₀ at₀ number₀ seen at number = Reading line end seen
 abbrev μ-loop : tie.MeasureT-loop
 μ-loop line end seen₀ at₀ number₀ seen at number = length line - at
 
--- src/line.rt:19:5
 loop-holds : tie.Need-loop-holds Inv-loop μ-loop
 loop-holds c = let a = c .before .before .args in read-none (a .line .now) (a .end) (a .seen .now) (c .before .before .pre .0) (c .before .before .pre .1)
 
--- src/line.rt:20:21
 add-start : tie.Need-add-start Inv-loop μ-loop
 add-start c = search needs
 
--- src/line.rt:21:9
 find-byte-requires : tie.Need-find-byte-requires Inv-loop μ-loop
 find-byte-requires c κs = search needs
 
--- src/line.rt:22:26
 sub-is-new-field : tie.Need-sub-is-new-field Inv-loop μ-loop
 sub-is-new-field c = search needs
 
--- src/line.rt:22:26
 part-is-new-field-start : tie.Need-part-is-new-field-start Inv-loop μ-loop
 part-is-new-field-start c = search needs
 
--- src/line.rt:22:26
 part-is-new-field-end : tie.Need-part-is-new-field-end Inv-loop μ-loop
-part-is-new-field-end c = 
+part-is-new-field-end c =
     let l = c .before .before in
     field-within (l .before .before .before .args .line .now) (l .loop .at) (c .find-byte .result) (c .before .loop-test .taken) (c .find-byte .ensures)
 
--- src/line.rt:22:13
 is-new-field-requires : tie.Need-is-new-field-requires Inv-loop μ-loop
 is-new-field-requires c κs = c .before .before .before .before .loop .inv .marked .whole
 
--- src/line.rt:23:13
 same-length : tie.Need-same-length Inv-loop μ-loop
-same-length c = 
+same-length c =
     let k = c .before .before .before in
     let b = k .before .before .before in
     let l = b .before .before in
     let a = l .before .before .before .args in
     k .is-new-field .kept .1 .0 ∙ l .loop .inv .marked .whole ∙ sym (ap length (l .before .before .before .pre .1))
 
--- src/line.rt:23:13
 returns : tie.Need-returns Inv-loop μ-loop
-returns c = 
+returns c =
     let k = c .before .before .before in
     let b = k .before .before .before in
     let l = b .before .before in
@@ -68,27 +56,24 @@ returns c =
     (read-faulty (a .line .now) (l .loop .at) (b .find-byte .result) (b .before .loop-test .taken) (b .find-byte .ensures) (a .end) (l .loop .seen) (l .loop .number) (l .loop .inv) (k .is-new-field .result)
     (not-true _ (c .if1 .taken)) (k .is-new-field .ensures .0))
 
--- src/line.rt:25:9
 add-number : tie.Need-add-number Inv-loop μ-loop
-add-number c = 
+add-number c =
     let k = c .before .before .before in
     let b = k .before .before .before in
     let l = b .before .before in
     let a = l .before .before .before .args in
     omega (arith, l .loop .inv .few, b .before .loop-test .taken, l .before .before .before .good)
 
--- src/line.rt:19:5
 loop-less : tie.Need-loop-less Inv-loop μ-loop
-loop-less c = 
+loop-less c =
     let k = c .before .before .before in
     let b = k .before .before .before in
     let l = b .before .before in
     let a = l .before .before .before .args in
     omega (arith, b .find-byte .ensures, b .before .loop-test .taken)
 
--- src/line.rt:19:5
 loop-again : tie.Need-loop-again Inv-loop μ-loop
-loop-again c = 
+loop-again c =
     let k = c .before .before .before in
     let b = k .before .before .before in
     let l = b .before .before in
@@ -96,13 +81,11 @@ loop-again c =
     read-on (a .line .now) (l .loop .at) (b .find-byte .result) (b .before .loop-test .taken) (b .find-byte .ensures) (a .end) (l .loop .seen) (l .loop .number) (l .loop .inv) (k .is-new-field .result)
     (not-false _ (c .if1 .left)) (k .is-new-field .ensures .0) (k .is-new-field .last .1 .0) (k .is-new-field .ensures .1)
 
--- src/line.rt:13:1
 same-length-2 : tie.Need-same-length-2 Inv-loop μ-loop
 same-length-2 c = c .before .loop .inv .marked .whole ∙ sym (ap length (c .before .before .before .before .pre .1))
 
--- src/line.rt:13:1
 returns-2 : tie.Need-returns-2 Inv-loop μ-loop
-returns-2 c = 
+returns-2 c =
     let l = c .before in
     let a = l .before .before .before .args in
     sym (read-all (a .line .now) (a .end) (l .loop .seen) (l .loop .at) (l .loop .number) (c .loop-test .left) (l .loop .inv))

@@ -1,54 +1,41 @@
-use mathlib.Core.Path.{_≡_, refl, sym, ap, _∙_}
-use lib.ListN.{length}
+-- `line::check_strict` meets its contract: the first field decides, and then the fields after it.
+use mathlib.Core.Path.{refl, sym, _∙_}
 use lib.Seq.{length-take-le}
 use borrow.Author.Tests.{not-true, not-false}
 use Rattle.strict.proofs.Lines.{first-within, strict-fields}
 use borrow.Author.Needs.{needs}
 use Rattle.strict.proofs.line.check_strict.Statement.{statement}
 use Rattle.strict.proofs.line.check_strict.Tie as tie
-use Rattle.strict.proofs.line.check_strict.Reads as reads
-use Rattle.strict.proofs.line.check_strict.Lts as lts
-use Rattle.strict.proofs.line.check_fields.Reads as check-fields-reads
-use Rattle.text.proofs.find_byte.Reads as find-byte-reads
-use Rattle.text.proofs.same.Reads as same-reads
 
--- src/line.rt:34:9
 find-byte-requires : tie.Need-find-byte-requires
 find-byte-requires c κs = search needs
 
--- src/line.rt:35:20
 slice-aggregate-same : tie.Need-slice-aggregate-same
-slice-aggregate-same c = 
+slice-aggregate-same c =
     let b = c .before in
     sym (length-take-le (b .find-byte .result) _ (first-within _ (b .find-byte .result) (b .find-byte .ensures)))
 
--- src/line.rt:35:34
 slice-aggregate-same-2 : tie.Need-slice-aggregate-same-2
 slice-aggregate-same-2 c = search needs
 
--- src/line.rt:35:9
 same-requires : tie.Need-same-requires
 same-requires c κs = search needs
 
--- src/line.rt:36:9
 returns : tie.Need-returns
-returns c = 
+returns c =
     let b = c .before .before .before .before in
     sym (strict-fields (b .before .before .args .line .now) (b .find-byte .result) (b .find-byte .ensures) (c .before .same .result) (c .before .same .ensures) ∙ rw (not-true (c .before .same .result) (c .if1 .taken)))
 
--- src/line.rt:39:29
 slice-aggregate-check-fields : tie.Need-slice-aggregate-check-fields
 slice-aggregate-check-fields c = search needs
 
--- src/line.rt:39:5
 check-fields-requires : tie.Need-check-fields-requires
-check-fields-requires c κs = 
+check-fields-requires c κs =
     let b = c .before .before .before .before .before in
     (first-within _ (b .find-byte .result) (b .find-byte .ensures), refl)
 
--- src/line.rt:31:1
 returns-2 : tie.Need-returns-2
-returns-2 c = 
+returns-2 c =
     let e = c .before .before .before in
     let b = e .before .before .before .before in
     c .before .check-fields .ensures ∙ sym (strict-fields (b .before .before .args .line .now) (b .find-byte .result) (b .find-byte .ensures) (e .before .same .result) (e .before .same .ensures) ∙ rw (not-false (e .before .same .result) (e .if1 .left)))

@@ -1,58 +1,45 @@
-use mathlib.Core.Path.{_≡_, refl, sym, _∙_}
-use mathlib.Core.Bool.{true, false, false≢true, and-false}
+-- `tag::is_new_field` meets its contract: a typed field begins with two letters, so its tag has a place in the table.
+use mathlib.Core.Path.{refl, sym, _∙_}
+use mathlib.Core.Bool.{and-false}
 use native.Mathlib.Omega.{arith}
 use borrow.Author.Tests.{eq-eqb, ne-eqb, not-true, not-false}
 use Rattle.strict.proofs.Tags.{Begins, fine-begins}
 use borrow.Author.Needs.{needs}
 use Rattle.strict.proofs.tag.is_new_field.Statement.{statement}
 use Rattle.strict.proofs.tag.is_new_field.Tie as tie
-use Rattle.strict.proofs.tag.is_new_field.Reads as reads
-use Rattle.strict.proofs.tag.is_new_field.Lts as lts
-use Rattle.strict.proofs.tag.tag_place.Reads as tag-place-reads
-use Rattle.strict.proofs.value.fine_field.Reads as fine-field-reads
 
 -- the field is a typed one
 begins : (c : tie.Else1) → Begins (c .before .before .before .before .args .f .now)
 begins c = fine-begins _ (sym (c .before .fine-field .ensures) ∙ not-false _ (c .if1 .left))
 
--- src/tag.rt:37:9
 fine-field-requires : tie.Need-fine-field-requires
 fine-field-requires c κs = search needs
 
--- src/tag.rt:38:9
 returns : tie.Need-returns
 returns c = (rw (sym (c .before .fine-field .ensures) ∙ not-true _ (c .if1 .taken)), refl)
 
--- src/tag.rt:40:24
 shared-slice-read-tag-place : tie.Need-shared-slice-read-tag-place
 shared-slice-read-tag-place c = omega (arith, (begins (c .before)) .long)
 
--- src/tag.rt:40:30
 shared-slice-read-tag-place-2 : tie.Need-shared-slice-read-tag-place-2
 shared-slice-read-tag-place-2 c = omega (arith, (begins (c .before .before)) .long)
 
--- src/tag.rt:40:9
 tag-place-requires : tie.Need-tag-place-requires
 tag-place-requires c κs = (begins (c .before .before) .first, begins (c .before .before) .second)
 
--- src/tag.rt:41:8
 slice-read-if2 : tie.Need-slice-read-if2
 slice-read-if2 c = search needs
 
--- src/tag.rt:42:9
 returns-2 : tie.Need-returns-2
 returns-2 c =
     (rw (← c .before .before .tag-place .ensures .0, ne-eqb _ 0 (c .if2 .taken), and-false), refl)
 
--- src/tag.rt:44:5
 slice-write-seen : tie.Need-slice-write-seen
 slice-write-seen c = search needs
 
--- src/tag.rt:32:1
 same-length : tie.Need-same-length
 same-length c = search needs
 
--- src/tag.rt:32:1
 returns-3 : tie.Need-returns-3
 returns-3 c =
     let e = c .before .before .before .before .before in (

@@ -1,4 +1,5 @@
-use mathlib.Core.Path.{_≡_, refl, sym, _∙_}
+-- `tag::letter_place` meets its contract: a letter before `a` is a large one, and any other a small one.
+use mathlib.Core.Path.{_≡_}
 use mathlib.Core.Logic.{⊎-elim}
 use Prim.Native.Nat.{_-_, _+_}
 use native.Mathlib.Omega.{arith}
@@ -8,35 +9,27 @@ use Rattle.strict.proofs.Tags.{letter-placed, place-below}
 use borrow.Author.Needs.{needs}
 use Rattle.strict.proofs.tag.letter_place.Statement.{statement}
 use Rattle.strict.proofs.tag.letter_place.Tie as tie
-use Rattle.strict.proofs.tag.letter_place.Reads as reads
-use Rattle.strict.proofs.tag.letter_place.Lts as lts
 
--- src/tag.rt:18:17
 sub-result : tie.Need-sub-result
 sub-result c =
     let x = c .before .args .x in
     ⊎-elim (λ h. omega arith) (λ h. omega arith) (letter-placed x (c .before .pre))
 
--- src/tag.rt:18:16
 cast-result : tie.Need-cast-result
 cast-result c = search needs
 
--- src/tag.rt:18:9
 returns : tie.Need-returns
 returns c =
     let x = c .before .args .x in
     let e : x - 65 ≡ letterPlace x = rw (lt-ltb x 97 (c .if1 .taken)) in
     (e, omega (arith, place-below x (letterPlace x) (letter-placed x (c .before .pre))))
 
--- src/tag.rt:20:5
 cast-result-2 : tie.Need-cast-result-2
 cast-result-2 c = search needs
 
--- src/tag.rt:20:5
 add-result : tie.Need-add-result
 add-result c = search needs
 
--- src/tag.rt:13:1
 returns-2 : tie.Need-returns-2
 returns-2 c =
     let x = c .before .args .x in

@@ -1,3 +1,4 @@
+-- `value::fine_field` meets its contract: one failed part refuses, and at the end all parts hold but the value, which decides.
 use mathlib.Core.Path.{sym, _∙_}
 use mathlib.Core.Bool.{and-false}
 use lib.ListN.{length, getD}
@@ -7,81 +8,60 @@ use Rattle.strict.proofs.Values.{part-to-end}
 use borrow.Author.Needs.{needs}
 use Rattle.strict.proofs.value.fine_field.Statement.{statement}
 use Rattle.strict.proofs.value.fine_field.Tie as tie
-use Rattle.strict.proofs.value.fine_field.Reads as reads
-use Rattle.strict.proofs.value.fine_field.Lts as lts
-use Rattle.strict.proofs.class.is_letter.Reads as is-letter-reads
-use Rattle.strict.proofs.value.fine_value.Reads as fine-value-reads
 
--- src/value.rt:85:9
 returns : tie.Need-returns
 unfolding fineField
 returns c = rw (lt-leb 5 (length (c .before .before .args .f .now)) (c .if1 .taken))
 
--- src/value.rt:87:19
 shared-slice-read-is-letter : tie.Need-shared-slice-read-is-letter
 shared-slice-read-is-letter c = search needs
 
--- src/value.rt:87:9
 is-letter-requires : tie.Need-is-letter-requires
 is-letter-requires c κs = search needs
 
--- src/value.rt:88:9
 returns-2 : tie.Need-returns-2
 unfolding fineField
 returns-2 c = rw (sym (c .before .is-letter .ensures) ∙ not-true _ (c .if2 .taken), and-false)
 
--- src/value.rt:90:19
 shared-slice-read-is-letter-2 : tie.Need-shared-slice-read-is-letter-2
 shared-slice-read-is-letter-2 c = search needs
 
--- src/value.rt:90:9
 is-letter-requires-2 : tie.Need-is-letter-requires-2
 is-letter-requires-2 c κs = search needs
 
--- src/value.rt:91:9
 returns-3 : tie.Need-returns-3
 unfolding fineField
 returns-3 c = rw (sym (c .before .is-letter2 .ensures) ∙ not-true _ (c .if3 .taken), and-false)
 
--- src/value.rt:93:8
 shared-slice-read-if4 : tie.Need-shared-slice-read-if4
 shared-slice-read-if4 c = search needs
 
--- src/value.rt:94:9
 returns-4 : tie.Need-returns-4
 unfolding fineField
 returns-4 c = rw (ne-eqb _ 58 (c .if4 .taken), and-false)
 
--- src/value.rt:96:8
 shared-slice-read-if5 : tie.Need-shared-slice-read-if5
 shared-slice-read-if5 c = search needs
 
--- src/value.rt:97:9
 returns-5 : tie.Need-returns-5
 unfolding fineField
 returns-5 c = rw (ne-eqb _ 58 (c .if5 .taken), and-false)
 
--- src/value.rt:99:16
 shared-slice-read-fine-value : tie.Need-shared-slice-read-fine-value
 shared-slice-read-fine-value c = search needs
 
--- src/value.rt:99:22
 sub-fine-value : tie.Need-sub-fine-value
 sub-fine-value c = search needs
 
--- src/value.rt:99:22
 part-fine-value-start : tie.Need-part-fine-value-start
 part-fine-value-start c = search needs
 
--- src/value.rt:99:22
 part-fine-value-end : tie.Need-part-fine-value-end
 part-fine-value-end c = search needs
 
--- src/value.rt:99:5
 fine-value-requires : tie.Need-fine-value-requires
 fine-value-requires c κs = search needs
 
--- src/value.rt:81:1
 returns-6 : tie.Need-returns-6
 unfolding fineField
 returns-6 c =

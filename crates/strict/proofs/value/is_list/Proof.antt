@@ -1,3 +1,4 @@
+-- `value::is_list` meets its contract: the test of a list is the letter, the first comma and a list of numbers behind it.
 use mathlib.Core.Path.{sym, _∙_}
 use lib.ListN.{length, getD}
 use borrow.Author.Tests.{le-leb, lt-leb, eq-eqb, ne-eqb, not-true, not-false}
@@ -6,29 +7,20 @@ use Rattle.strict.proofs.Values.{part-to-end, list-test}
 use borrow.Author.Needs.{needs}
 use Rattle.strict.proofs.value.is_list.Statement.{statement}
 use Rattle.strict.proofs.value.is_list.Tie as tie
-use Rattle.strict.proofs.value.is_list.Reads as reads
-use Rattle.strict.proofs.value.is_list.Lts as lts
-use Rattle.strict.proofs.class.is_one_of.Reads as is-one-of-reads
-use Rattle.strict.proofs.number.ends_number.Reads as ends-number-reads
 
--- src/value.rt:55:9
 returns : tie.Need-returns
 unfolding valueOf
 returns c = let v = c .before .before .args .v .now in sym (list-test v ∙ rw (lt-leb 2 (length v) (c .if1 .taken)))
 
--- src/value.rt:57:19
 shared-slice-read-is-one-of : tie.Need-shared-slice-read-is-one-of
 shared-slice-read-is-one-of c = search needs
 
--- src/value.rt:57:25
 slice-aggregate-is-one-of : tie.Need-slice-aggregate-is-one-of
 slice-aggregate-is-one-of c = search needs
 
--- src/value.rt:57:9
 is-one-of-requires : tie.Need-is-one-of-requires
 is-one-of-requires c κs = search needs
 
--- src/value.rt:58:9
 returns-2 : tie.Need-returns-2
 unfolding valueOf
 returns-2 c =
@@ -37,11 +29,9 @@ returns-2 c =
     let k = sym (c .before .is-one-of .ensures) ∙ not-true _ (c .if2 .taken) in
     sym (list-test v ∙ rw (le-leb 2 (length v) (l .if1 .left), k))
 
--- src/value.rt:60:8
 shared-slice-read-if3 : tie.Need-shared-slice-read-if3
 shared-slice-read-if3 c = search needs
 
--- src/value.rt:61:9
 returns-3 : tie.Need-returns-3
 unfolding valueOf
 returns-3 c =
@@ -53,22 +43,18 @@ returns-3 c =
     ∙ rw
     (le-leb 2 (length v) (l .if1 .left), sym (k .before .is-one-of .ensures) ∙ not-false _ (k .if2 .left), ne-eqb 44 (getD v 1 0) (λ e. c .if3 .taken (sym e))))
 
-sub-ends-number : tie.Need-sub-ends-number
-sub-ends-number c = search needs
+sub-is-number : tie.Need-sub-is-number
+sub-is-number c = search needs
 
--- src/value.rt:63:38
-part-ends-number-start : tie.Need-part-ends-number-start
-part-ends-number-start c = search needs
+part-is-number-start : tie.Need-part-is-number-start
+part-is-number-start c = search needs
 
--- src/value.rt:63:38
-part-ends-number-end : tie.Need-part-ends-number-end
-part-ends-number-end c = search needs
+part-is-number-end : tie.Need-part-is-number-end
+part-is-number-end c = search needs
 
--- src/value.rt:63:5
-ends-number-requires : tie.Need-ends-number-requires
-ends-number-requires c κs = search needs
+is-number-requires : tie.Need-is-number-requires
+is-number-requires c κs = search needs
 
--- src/value.rt:51:1
 returns-4 : tie.Need-returns-4
 unfolding valueOf
 returns-4 c =
@@ -76,7 +62,7 @@ returns-4 c =
     let k = j .before .before in
     let l = k .before .before .before .before in
     let v = l .before .before .args .v .now in
-    c .ends-number .ensures
+    c .is-number .ensures
     ∙ rw (part-to-end 2 v)
     (sym
     (list-test v
@@ -94,8 +80,8 @@ is-list-spec =
     returns-2
     shared-slice-read-if3
     returns-3
-    sub-ends-number
-    part-ends-number-start
-    part-ends-number-end
-    ends-number-requires
+    sub-is-number
+    part-is-number-start
+    part-is-number-end
+    is-number-requires
     returns-4)

@@ -1,4 +1,5 @@
-use mathlib.Core.Path.{_≡_, refl, sym, ap, _∙_}
+-- `value::is_run` meets its contract. The invariant: the bytes before `i` are of the class, so the others decide.
+use mathlib.Core.Path.{_≡_, sym, _∙_}
 use mathlib.Core.Bool.{true, false, and-true, and-false}
 use lib.Dec.{ltb}
 use borrow.Author.Tests.{not-true, not-false}
@@ -13,9 +14,6 @@ use Rattle.strict.specs.Value.{runClass}
 use borrow.Author.Needs.{needs}
 use Rattle.strict.proofs.value.is_run.Statement.{statement}
 use Rattle.strict.proofs.value.is_run.Tie as tie
-use Rattle.strict.proofs.value.is_run.Reads as reads
-use Rattle.strict.proofs.value.is_run.Lts as lts
-use Rattle.strict.proofs.value.in_run.Reads as in-run-reads
 
 abbrev Inv-loop : tie.InvT-loop
 Inv-loop t v i₀ i = (i ≤ length v) × (all (runClass t) v ≡ all (runClass t) (drop i v))
@@ -23,7 +21,6 @@ Inv-loop t v i₀ i = (i ≤ length v) × (all (runClass t) v ≡ all (runClass 
 abbrev μ-loop : tie.MeasureT-loop
 μ-loop t v i₀ i = length v - i
 
--- src/value.rt:41:5
 module _ (c : Class) (v : Bytes) (i : ℕ) where
   one-in : i < length v → c (getD v i 0) ≡ true → all c (drop i v) ≡ all c (drop (suc i) v)
   one-in h e = rw (drop-cons v i 0 h, e)
@@ -37,15 +34,12 @@ module _ (c : Class) (v : Bytes) (i : ℕ) where
 loop-holds : tie.Need-loop-holds Inv-loop μ-loop
 loop-holds c = search needs
 
--- src/value.rt:42:23
 shared-slice-read-in-run : tie.Need-shared-slice-read-in-run Inv-loop μ-loop
 shared-slice-read-in-run c = search needs
 
--- src/value.rt:42:13
 in-run-requires : tie.Need-in-run-requires Inv-loop μ-loop
 in-run-requires c κs = search needs
 
--- src/value.rt:43:13
 returns : tie.Need-returns Inv-loop μ-loop
 returns c =
     let l = c .before .before .before .before in
@@ -54,15 +48,12 @@ returns c =
     (l .loop .inv .1 ∙ one-out (runClass (a .t)) (a .v .now) (l .loop .i) (search needs) (sym (c .before .in-run .ensures) ∙ not-true _ (c .if1 .taken)))
     (sym (and-false (ltb 0 (length (a .v .now)))))
 
--- src/value.rt:45:9
 add-i : tie.Need-add-i Inv-loop μ-loop
 add-i c = search needs
 
--- src/value.rt:41:5
 loop-less : tie.Need-loop-less Inv-loop μ-loop
 loop-less c = search needs
 
--- src/value.rt:41:5
 loop-again : tie.Need-loop-again Inv-loop μ-loop
 loop-again c =
     let l = c .before .before .before .before in
@@ -70,7 +61,6 @@ loop-again c =
     let e = one-in (runClass (a .t)) (a .v .now) (l .loop .i) (search needs) (sym (c .before .in-run .ensures) ∙ not-false _ (c .if1 .left)) in
     (search needs, rw add-one (l .loop .inv .1 ∙ e))
 
--- src/value.rt:37:1
 returns-2 : tie.Need-returns-2 Inv-loop μ-loop
 returns-2 c =
     let l = c .before in

@@ -1,4 +1,5 @@
-use mathlib.Core.Path.{_≡_, refl, sym, ap, _∙_}
+-- `number::is_number` meets its contract. The invariant: what is left, read on from the present state, decides.
+use mathlib.Core.Path.{_≡_, sym, _∙_}
 use mathlib.Core.Bool.{Bool}
 use Prim.Native.Nat.{ℕ, suc, _-_, _<_, _≤_}
 use native.Mathlib.Numerals.{add-one}
@@ -8,12 +9,8 @@ use Rattle.model.specs.Bytes.{Bytes}
 use Rattle.strict.specs.Number.{next, ends, run}
 use Rattle.strict.specs.declared.number.Number.{Number}
 use borrow.Author.Needs.{needs}
-use Rattle.strict.proofs.number.ends_number.Statement.{statement}
-use Rattle.strict.proofs.number.ends_number.Tie as tie
-use Rattle.strict.proofs.number.ends_number.Reads as reads
-use Rattle.strict.proofs.number.ends_number.Lts as lts
-use Rattle.strict.proofs.number.may_end.Reads as may-end-reads
-use Rattle.strict.proofs.number.step.Reads as step-reads
+use Rattle.strict.proofs.number.is_number.Statement.{statement}
+use Rattle.strict.proofs.number.is_number.Tie as tie
 
 abbrev Inv-loop : tie.InvT-loop
 Inv-loop list v state₀ i₀ state i = run list state₀ v ≡ run list state (drop i v)
@@ -21,7 +18,6 @@ Inv-loop list v state₀ i₀ state i = run list state₀ v ≡ run list state (
 abbrev μ-loop : tie.MeasureT-loop
 μ-loop list v state₀ i₀ state i = length v - i
 
--- src/number.rt:117:5
 module _ (list : Bool) (q : Number) (v : Bytes) (i : ℕ) where
   read-one : i < length v → run list q (drop i v) ≡ run list (next list q (getD v i 0)) (drop (suc i) v)
   unfolding run
@@ -34,42 +30,35 @@ module _ (list : Bool) (q : Number) (v : Bytes) (i : ℕ) where
 loop-holds : tie.Need-loop-holds Inv-loop μ-loop
 loop-holds c = search needs
 
--- src/number.rt:118:35
 shared-slice-read-step : tie.Need-shared-slice-read-step Inv-loop μ-loop
 shared-slice-read-step c = search needs
 
--- src/number.rt:118:9
 step-requires : tie.Need-step-requires Inv-loop μ-loop
 step-requires c κs = search needs
 
--- src/number.rt:119:9
 add-i : tie.Need-add-i Inv-loop μ-loop
 add-i c = search needs
 
--- src/number.rt:117:5
 loop-less : tie.Need-loop-less Inv-loop μ-loop
 loop-less c = search needs
 
--- src/number.rt:117:5
 loop-again : tie.Need-loop-again Inv-loop μ-loop
 loop-again c =
     let l = c .before .before .before in
     let a = l .before .before .args in
     rw (add-one, c .step .ensures) (l .loop .inv ∙ read-one (a .list) (l .loop .state) (a .v .now) (l .loop .i) (search needs))
 
--- src/number.rt:121:5
 may-end-requires : tie.Need-may-end-requires Inv-loop μ-loop
 may-end-requires c κs = search needs
 
--- src/number.rt:112:1
 returns : tie.Need-returns Inv-loop μ-loop
 returns c =
     let l = c .before .before in
     let a = l .before .before .args in
     c .may-end .ensures ∙ sym (l .loop .inv ∙ read-all (a .list) (l .loop .state) (a .v .now) (l .loop .i) (search needs))
 
-pub ends-number-spec : {M : Type 1} → statement M
-ends-number-spec =
+pub is-number-spec : {M : Type 1} → statement M
+is-number-spec =
     tie.close
     (tie.spec
     Inv-loop
