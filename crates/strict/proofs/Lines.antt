@@ -34,35 +34,33 @@ module _ (line : Bytes) (at e : ℕ) (h : at < length line) (f : e ≡ at + 1 + 
   pub field-within : e ≤ length line
   field-within = rw f (index-within 9 line (at + 1) (omega arith))
 
-  next-field : fieldsAfter line at ≡ fieldAt line at e ∷ fieldsAfter line e
-  next-field =
+  first-field : fieldsAfter line at ≡ fieldAt line at e ∷ fieldsAfter line e
+  first-field =
       let k : e - (at + 1) ≡ indexOf 9 (drop (at + 1) line) = omega arith in
       rw (lt-ltb at (length line) h, k, f) (split-from 9 line (at + 1) (omega arith))
 
-  module _ (end : ℕ) (seen : Bytes) (number : ℕ) (r : Reading line end seen at number) where
-    -- the test of the field, in the terms of the table
-    read-field : (t : Bool) → t ≡ fineField (fieldAt line at e) && eqb (getD seen (fieldPlace (fieldAt line at e)) 0) 0
-        → strictFields 1 [] (fieldsAfter line end)
+  -- t, the test of the field in the terms of the table, tells whether the reading ends here or goes on with the table after it
+  module _ (end : ℕ) (seen : Bytes) (number : ℕ) (r : Reading line end seen at number) (t : Bool)
+      (g : t ≡ fineField (fieldAt line at e) && eqb (getD seen (fieldPlace (fieldAt line at e)) 0) 0) where
+    decides : strictFields 1 [] (fieldsAfter line end)
         ≡ cond t (strictFields (suc number) (take 2 (fieldAt line at e) ∷ r .tags) (fieldsAfter line e)) (Faulty number)
     unfolding strictFields
-    read-field t g = r .same ∙ rw (next-field, g ∙ new-tag (fieldAt line at e) seen (r .tags) (r .marked))
+    decides = r .same ∙ rw (first-field, g ∙ new-tag (fieldAt line at e) seen (r .tags) (r .marked))
 
-    pub read-on : (t : Bool) → t ≡ true → t ≡ fineField (fieldAt line at e) && eqb (getD seen (fieldPlace (fieldAt line at e)) 0) 0
-        → (seen′ : Bytes) → seen′ ≡ cond t (set seen (fieldPlace (fieldAt line at e)) 1) seen
-        → Reading line end seen′ e (number + 1)
-    read-on t d g seen′ s =
+    goes-on : t ≡ true → (seen′ : Bytes) → seen′ ≡ cond t (set seen (fieldPlace (fieldAt line at e)) 1) seen → Reading line end seen′ e (number + 1)
+    goes-on d seen′ s =
         let fine = both-true (fineField (fieldAt line at e)) _ (sym g ∙ d) in
         record {
           within = field-within;
           few = omega (arith, r .few);
           tags = take 2 (fieldAt line at e) ∷ r .tags;
           marked = rw (s, d) (marked-field (fieldAt line at e) seen (r .tags) (fine .0) (r .marked));
-          same = read-field t g ∙ rw (d, add-one number);
+          same = decides ∙ rw (d, add-one number);
         }
 
-    pub read-faulty : (t : Bool) → t ≡ false → t ≡ fineField (fieldAt line at e) && eqb (getD seen (fieldPlace (fieldAt line at e)) 0) 0
-        → strictFields 1 [] (fieldsAfter line end) ≡ Faulty number
-    read-faulty t d g = read-field t g ∙ rw d
+    pub next-field : (t ≡ false → strictFields 1 [] (fieldsAfter line end) ≡ Faulty number)
+        × (t ≡ true → (seen′ : Bytes) → seen′ ≡ cond t (set seen (fieldPlace (fieldAt line at e)) 1) seen → Reading line end seen′ e (number + 1))
+    next-field = (λ d. decides ∙ rw d, goes-on)
 
 module _ (line : Bytes) (end : ℕ) (seen : Bytes) where
   pub read-none : end ≤ length line → seen ≡ replicate 2704 0 → Reading line end seen end 1
