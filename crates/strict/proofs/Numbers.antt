@@ -1,4 +1,4 @@
--- Reading a number byte by byte tests the same texts as its expression: each state has an expression, and a byte leads from one to the next.
+-- A number read byte by byte has the test of its expression: each state has a test of what may follow, and a byte leads from one to the next.
 -- Assumes nothing.
 use mathlib.Core.Path.{_≡_, refl, sym, ap, _∙_}
 use mathlib.Core.Bool.{Bool, true, false, cond, _&&_, _||_, false≢true, and-eq-true-iff, and-true, and-false, or-false, or-assoc, or-comm, or-self}
@@ -9,11 +9,12 @@ use borrow.Author.Tests.{eqb-true}
 use Rattle.model.specs.Bytes.{Bytes}
 use Rattle.model.specs.Strict.{Regex, empty, one, seq, alt, plus, opt, byte, oneOf, sign, digit, integer, float, nullable, after, matches}
 use Rattle.strict.specs.Class.{isOneOf}
-use Rattle.strict.specs.Number.{signs, exponents, afterSign, afterNumber, next, ends, run}
+use Rattle.strict.specs.Number.{signs, exponents, afterDigit, afterSign, afterNumber, next, ends, run}
 use Rattle.strict.specs.declared.number.Number.{Number}
 use Rattle.strict.specs.declared.number.Number.the-variants.{Float, Unsigned, Whole, Point, Fraction, Integer, UnsignedInteger, Digits, Refused}
 use Rattle.strict.proofs.Sequences.{none-fails, seq-seq, alt-or, seq-opt, seq-plus, seq-one, seq-oneOf, seq-run}
 
+-- the parts of a number's expression
 abbrev digits : Regex
 digits = plus (one digit)
 
@@ -34,7 +35,7 @@ abbrev pub rest : Bool → Regex
 rest false = empty
 rest true = alt empty (seq (plus item) empty)
 
--- the texts that are left to read in a state
+-- the test of what is left to read in a state
 abbrev pub left : Bool → Number → Bytes → Bool
 left list Float s = matches (seq float (rest list)) s
 left list Unsigned s = matches (seq (seq (opt digits) pointed) (rest list)) s
@@ -113,7 +114,8 @@ module _ (list : Bool) (x : ℕ) (s : Bytes) where
   integer-step =
       seq-opt-seq sign digits (rest list) (x ∷ s)
       ∙ rw (seq-oneOf signs (seq digits (rest list)) x s, unsigned-integer-step)
-      (or-else list s (isOneOf signs x) UnsignedInteger (next list UnsignedInteger x) (refuses (next list UnsignedInteger) signs x (refl, (refl, tt))))
+      (or-else list s (isOneOf signs x) UnsignedInteger (next list UnsignedInteger x)
+      (refuses (next list UnsignedInteger) signs x (refl, (refl, tt))))
 
   -- a comma of a list, or else what p leaves
   comma-step : (p : ℕ → Number) → p 44 ≡ Refused
@@ -129,8 +131,13 @@ module _ (list : Bool) (x : ℕ) (s : Bytes) where
   exponent-step : (p : ℕ → Number) → Refuses p (44 ∷ exponents)
       → matches (seq exponent (rest list)) (x ∷ s) || left list (p x) s ≡ left list (afterNumber list x (p x)) s
   exponent-step p r =
-      rw
-      (seq-opt (seq (oneOf exponents) integer) (rest list) (x ∷ s), seq-seq (oneOf exponents) integer (rest list) (x ∷ s), seq-oneOf exponents (seq integer (rest list)) x s, or-assoc, comma-step p (r .0))
+      rw (
+        seq-opt (seq (oneOf exponents) integer) (rest list) (x ∷ s),
+        seq-seq (oneOf exponents) integer (rest list) (x ∷ s),
+        seq-oneOf exponents (seq integer (rest list)) x s,
+        or-assoc,
+        comma-step p (r .0),
+      )
       (or-else list s (isOneOf exponents x) Integer (cond (eqb 44 x && list) Float (p x))
       (refuses (λ y. cond (eqb 44 y && list) Float (p y)) exponents x (r .1)))
 
@@ -141,15 +148,21 @@ module _ (list : Bool) (x : ℕ) (s : Bytes) where
   pointed-step : matches (seq pointed (rest list)) (x ∷ s) ≡ (eqb 46 x && left list Point s) || (digit x && left list Fraction s)
   pointed-step =
       seq-opt-seq (byte 46) fraction (rest list) (x ∷ s)
-      ∙ rw (seq-one (eqb 46) (seq fraction (rest list)) x s, seq-seq digits exponent (rest list) s, seq-seq digits exponent (rest list) (x ∷ s), seq-run digit (seq exponent (rest list)) x s)
+      ∙ rw (
+        seq-one (eqb 46) (seq fraction (rest list)) x s,
+        seq-seq digits exponent (rest list) s,
+        seq-seq digits exponent (rest list) (x ∷ s),
+        seq-run digit (seq exponent (rest list)) x s,
+      )
 
   unsigned-step : left list Unsigned (x ∷ s) ≡ left list (next list Unsigned x) s
   unsigned-step =
       seq-opt-seq digits pointed (rest list) (x ∷ s)
       ∙ rw (seq-run digit (seq pointed (rest list)) x s, pointed-step)
-      (gather (digit x) (matches (seq pointed (rest list)) s) (matches (seq digits (seq pointed (rest list))) s) (eqb 46 x && left list Point s) (left list Fraction s)
+      (gather (digit x) (matches (seq pointed (rest list)) s) (matches (seq digits (seq pointed (rest list))) s) (eqb 46 x && left list Point s)
+      (left list Fraction s)
       ∙ rw (← seq-opt-seq digits pointed (rest list) s, or-nothing list s (digit x) Whole)
-      (or-else list s (eqb 46 x) Point (cond (digit x) Whole Refused) (λ e. refuses (λ y. cond (digit y) Whole Refused) (46 ∷ []) x (refl, tt) (rw e))))
+      (or-else list s (eqb 46 x) Point (afterDigit x Whole) (λ e. refuses (λ y. afterDigit y Whole) (46 ∷ []) x (refl, tt) (rw e))))
     where
       gather : (d r t k f : Bool) → (d && (r || t)) || (k || (d && f)) ≡ k || (d && (f || (t || r)))
       gather true r t k f = or-comm (r || t) (k || f) ∙ or-assoc k f (r || t) ∙ ap (λ (u : Bool). k || (f || u)) (or-comm r t)
@@ -166,14 +179,18 @@ module _ (list : Bool) (x : ℕ) (s : Bytes) where
   digit-again = go (digit x) (eqb 46 x) refl refl
     where
       go : (d p : Bool) → digit x ≡ d → eqb 46 x ≡ p
-          → left list (cond d Fraction Refused) s || left list (cond p Point (cond d Whole Refused)) s ≡ left list (cond p Point (cond d Whole Refused)) s
+          → left list (cond d Fraction Refused) s || left list (cond p Point (cond d Whole Refused)) s
+          ≡ left list (cond p Point (cond d Whole Refused)) s
       go true true e f = absurd (false≢true (ap digit (eqb-true 46 x f) ∙ e))
-      go true false e f = sym (or-assoc (left list Fraction s) (left list Fraction s) (left list Unsigned s)) ∙ ap (λ (t : Bool). t || left list Unsigned s) (or-self (left list Fraction s))
+      go true false e f =
+          sym (or-assoc (left list Fraction s) (left list Fraction s) (left list Unsigned s))
+          ∙ ap (λ (t : Bool). t || left list Unsigned s) (or-self (left list Fraction s))
       go false p e f = refl
 
   whole-step : left list Whole (x ∷ s) ≡ left list (next list Whole x) s
   whole-step = rw (or-assoc, point-step, unsigned-step, digit-again) (exponent-step afterSign (refl, (refl, (refl, tt))))
 
+-- a byte leads from a state to the next
 left-step : (list : Bool) (q : Number) (x : ℕ) (s : Bytes) → left list q (x ∷ s) ≡ left list (next list q x) s
 left-step list Float x s = float-step list x s
 left-step list Unsigned x s = unsigned-step list x s
@@ -185,6 +202,7 @@ left-step list UnsignedInteger x s = unsigned-integer-step list x s
 left-step list Digits x s = digits-step list x s
 left-step list Refused x s = refl
 
+-- reading on from a state makes the test of what is left
 pub run-left : (list : Bool) (q : Number) (s : Bytes) → run list q s ≡ left list q s
 unfolding run
 run-left list q [] = sym (left-ends list q)

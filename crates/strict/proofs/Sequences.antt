@@ -65,7 +65,7 @@ seq-alt p q r s =
 pub seq-opt : (p r : Regex) (s : Bytes) → matches (seq (opt p) r) s ≡ matches (seq p r) s || matches r s
 seq-opt p r s = seq-alt p empty r s ∙ ap (λ (t : Bool). matches (seq p r) s || t) (seq-empty r s)
 
--- one or more times p, then r: p, and then r or all that again
+-- one or more times p, then r: p once, and then r or the whole again
 pub seq-plus : (p r : Regex) (s : Bytes) → matches (seq (plus p) r) s ≡ matches (seq p (alt r (seq (plus p) r))) s
 unfolding Matches
 seq-plus p r s =
@@ -98,4 +98,6 @@ seq-oneOf (b ∷ bs) r x s =
 -- bytes of a class, one or more, then r
 pub seq-run : (c : Class) (r : Regex) (x : ℕ) (s : Bytes)
     → matches (seq (plus (one c)) r) (x ∷ s) ≡ c x && (matches r s || matches (seq (plus (one c)) r) s)
-seq-run c r x s = seq-plus (one c) r (x ∷ s) ∙ seq-one c (alt r (seq (plus (one c)) r)) x s ∙ ap (λ (t : Bool). c x && t) (alt-or r (seq (plus (one c)) r) s)
+seq-run c r x s =
+    let p = seq (plus (one c)) r in
+    seq-plus (one c) r (x ∷ s) ∙ seq-one c (alt r p) x s ∙ ap (λ (t : Bool). c x && t) (alt-or r p s)

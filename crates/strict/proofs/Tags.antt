@@ -40,15 +40,16 @@ pub place-below : (x p : ℕ) → Placed x p → p < 52
 place-below x p = ⊎-elim (λ h. omega arith) (λ h. h .1)
 
 same-letter : (x y p q : ℕ) → Placed x p → Placed y q → p ≡ q → x ≡ y
-same-letter x y p q a b e = ⊎-elim (λ u. ⊎-elim (λ v. omega arith) (λ v. absurd (omega arith)) b) (λ u. ⊎-elim (λ v. absurd (omega arith)) (λ v. omega arith) b) a
+same-letter x y p q a b e =
+    ⊎-elim (λ u. ⊎-elim (λ v. omega arith) (λ v. absurd (omega arith)) b) (λ u. ⊎-elim (λ v. absurd (omega arith)) (λ v. omega arith) b) a
 
 module _ (x y : ℕ) (lx : letter x ≡ true) (ly : letter y ≡ true) where
   pub tag-below : tagPlace x y < 2704
   tag-below = omega (arith, place-below x (letterPlace x) (letter-placed x lx), place-below y (letterPlace y) (letter-placed y ly))
 
   -- two tags at one place are the same
-  tag-apart : (u v : ℕ) → letter u ≡ true → letter v ≡ true → tagPlace x y ≡ tagPlace u v → (x ∷ y ∷ []) ≡ (u ∷ v ∷ [])
-  tag-apart u v lu lv e =
+  same-tag : (u v : ℕ) → letter u ≡ true → letter v ≡ true → tagPlace x y ≡ tagPlace u v → (x ∷ y ∷ []) ≡ (u ∷ v ∷ [])
+  same-tag u v lu lv e =
       let p = letter-placed x lx in
       let q = letter-placed y ly in
       let r = letter-placed u lu in
@@ -87,7 +88,7 @@ marked-more seen tags x y lx ly m = record {
         rw (p, q) (getD-set-same seen (tagPlace x y) 1 0 (rw (m .whole) (tag-below x y lx ly)))
     go u v lu lv false e =
         getD-set-other seen (tagPlace x y) (tagPlace u v) 1 0
-        (λ p. false≢true (sym e ∙ sameBytes-true (u ∷ v ∷ []) (x ∷ y ∷ []) .1 (tag-apart u v lu lv x y lx ly p)))
+        (λ p. false≢true (sym e ∙ sameBytes-true (u ∷ v ∷ []) (x ∷ y ∷ []) .1 (same-tag u v lu lv x y lx ly p)))
         ∙ m .entry u v lu lv
 
 -- what a typed field begins with

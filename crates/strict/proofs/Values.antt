@@ -1,4 +1,4 @@
--- The tests of values of one byte, of a run of bytes and of a list, without expressions. Assumes nothing.
+-- The tests of values in the terms of the code: one byte, a run of bytes of a class, a number, a list. Assumes nothing.
 use mathlib.Core.Path.{_≡_, refl, sym, _∙_}
 use mathlib.Core.Logic.{_⊎_, inl, inr, ⊎-elim}
 use mathlib.Core.Bool.{Bool, true, false, cond, _&&_, _||_, and-false, and-assoc, and-or-distrib-right}
@@ -11,11 +11,11 @@ use lib.Seq.{take-all}
 use borrow.Author.Tests.{lt-ltb, le-leb, ne-eqb}
 use Rattle.model.specs.Text.{text}
 use Rattle.model.specs.Bytes.{Bytes}
-use Rattle.model.specs.Strict.{Class, Regex, none, empty, one, seq, alt, plus, oneOf, digit, hexLetter, printable, nullable, after, matches, valueOf}
+use Rattle.model.specs.Strict.{Class, Regex, none, empty, one, seq, alt, plus, oneOf, integer, float, digit, hexLetter, printable, nullable, after, matches, valueOf}
 use Rattle.strict.specs.Class.{isOneOf, all}
 use Rattle.strict.specs.Number.{run}
 use Rattle.strict.specs.Value.{runClass}
-use Rattle.strict.specs.declared.number.Number.the-variants.{Float}
+use Rattle.strict.specs.declared.number.Number.the-variants.{Float, Integer}
 use Rattle.strict.proofs.Sequences.{none-fails, seq-end, alt-or, seq-alt, seq-plus, seq-one, seq-oneOf}
 use Rattle.strict.proofs.Numbers.{item, items-step, run-left}
 
@@ -78,6 +78,13 @@ two-classes c d r = (
       seq-alt (one c) (one d) r (x ∷ s) ∙ rw (seq-one c r x s, seq-one d r x s) (sym (and-or-distrib-right (c x) (d x) (matches r s))),
 )
 
+-- a number by itself
+pub integer-test : (v : Bytes) → run false Integer v ≡ matches integer v
+integer-test v = run-left false Integer v ∙ seq-end integer v
+
+pub float-test : (v : Bytes) → run false Float v ≡ matches float v
+float-test v = run-left false Float v ∙ seq-end float v
+
 -- a letter of a number's width, then the items
 pub list-test : (v : Bytes)
     → matches (seq (oneOf (text "cCsSiIf")) (plus item)) v
@@ -95,13 +102,23 @@ pub run-value : (t : ℕ) (v : Bytes) → (t ≡ 72) ⊎ ((t ≡ 74) ⊎ (t ≡ 
 unfolding valueOf
 run-value t v =
     ⊎-elim (λ e. rw e (run-test (alt (one digit) (one hexLetter)) (λ x. digit x || hexLetter x) (two-classes digit hexLetter) v))
-    (⊎-elim (λ e. rw e (run-test (one printable) printable (one-class printable) v)) (λ e. rw e (run-test (one printable) printable (one-class printable) v)))
+    (⊎-elim (λ e. rw e text-test) (λ e. rw e text-test))
+  where
+    text-test : matches (plus (one printable)) v ≡ ltb 0 (length v) && all printable v
+    text-test = run-test (one printable) printable (one-class printable) v
 
 -- a byte that is no type has no value
 pub no-value : (t : ℕ) (v : Bytes) → (t ≡ 65 → ⊥) → (t ≡ 105 → ⊥) → (t ≡ 102 → ⊥) → ((t ≡ 72) ⊎ ((t ≡ 74) ⊎ (t ≡ 90)) → ⊥) → (t ≡ 66 → ⊥)
     → matches (valueOf t) v ≡ false
 unfolding valueOf
 no-value t v a i f r b =
-    rw
-    (ne-eqb t 65 a, ne-eqb t 105 i, ne-eqb t 102 f, ne-eqb t 90 (λ e. r (inr (inr e))), ne-eqb t 74 (λ e. r (inr (inl e))), ne-eqb t 72 (λ e. r (inl e)), ne-eqb t 66 b)
+    rw (
+      ne-eqb t 65 a,
+      ne-eqb t 105 i,
+      ne-eqb t 102 f,
+      ne-eqb t 90 (λ e. r (inr (inr e))),
+      ne-eqb t 74 (λ e. r (inr (inl e))),
+      ne-eqb t 72 (λ e. r (inl e)),
+      ne-eqb t 66 b,
+    )
     (none-fails v)

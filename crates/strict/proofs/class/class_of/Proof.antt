@@ -6,8 +6,8 @@ use Prim.Native.Nat.{ℕ, _/_, _%_}
 use lib.Dec.{eqb}
 use lib.ListN.{getD, replicate}
 use borrow.Author.Needs.{needs}
-use Rattle.text.proofs.Tests.{both-true}
 use Rattle.model.specs.Strict.{digit, hexLetter, letter, visible, printable}
+use Rattle.text.proofs.Tests.{both-true}
 use Rattle.strict.specs.Class.{Classes}
 use Rattle.strict.proofs.Table.{at}
 use Rattle.strict.proofs.class.class_of.Statement.{statement}

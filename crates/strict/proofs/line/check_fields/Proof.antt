@@ -36,7 +36,7 @@ turn k =
     let a = start l .args in
     let n = k .is-new-field in
     let r = next-field (a .line .now) (l .loop .at) (b .find-byte .result) (b .before .loop-test .taken) (b .find-byte .ensures) (a .end)
-        (l .loop .seen) (l .loop .number) (l .loop .inv) (n .result) (n .ensures .0) in
+    (l .loop .seen) (l .loop .number) (l .loop .inv) (n .result) (n .ensures .0) in
     (λ d. sym (r .0 d), λ d. r .1 d (n .last .1 .0) (n .ensures .1))
 
 loop-holds : tie.Need-loop-holds Inv-loop μ-loop

@@ -14,10 +14,14 @@ is-comma-requires : tie.Need-is-comma-requires
 is-comma-requires c κs = search needs
 
 returns-2 : tie.Need-returns-2
-returns-2 c = rw (sym (c .before .before .before .is-exponent .ensures) ∙ c .before .before .if1 .left, sym (c .before .is-comma .ensures) ∙ c .if2 .taken)
+returns-2 c =
+    let e = c .before .before in
+    rw (sym (e .before .is-exponent .ensures) ∙ e .if1 .left, sym (c .before .is-comma .ensures) ∙ c .if2 .taken)
 
 returns-3 : tie.Need-returns-3
-returns-3 c = rw (sym (c .before .before .before .is-exponent .ensures) ∙ c .before .before .if1 .left, sym (c .before .is-comma .ensures) ∙ c .if2 .left)
+returns-3 c =
+    let e = c .before .before in
+    rw (sym (e .before .is-exponent .ensures) ∙ e .if1 .left, sym (c .before .is-comma .ensures) ∙ c .if2 .left)
 
 pub after-number-spec : {M : Type 1} → statement M
 after-number-spec =

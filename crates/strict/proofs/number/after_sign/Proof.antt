@@ -1,7 +1,7 @@
 -- `number::after_sign` meets its contract, by the two ways of its test.
 use mathlib.Core.Path.{sym}
-use borrow.Author.Tests.{eq-eqb, ne-eqb}
 use borrow.Author.Needs.{needs}
+use borrow.Author.Tests.{eq-eqb, ne-eqb}
 use Rattle.strict.proofs.number.after_sign.Statement.{statement}
 use Rattle.strict.proofs.number.after_sign.Tie as tie
 

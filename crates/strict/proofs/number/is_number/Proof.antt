@@ -5,10 +5,10 @@ use Prim.Native.Nat.{ℕ, suc, _-_, _<_, _≤_}
 use native.Mathlib.Numerals.{add-one}
 use lib.ListN.{length, drop, getD, drop-of-length-le}
 use lib.Seq.{drop-cons}
+use borrow.Author.Needs.{needs}
 use Rattle.model.specs.Bytes.{Bytes}
 use Rattle.strict.specs.Number.{next, ends, run}
 use Rattle.strict.specs.declared.number.Number.{Number}
-use borrow.Author.Needs.{needs}
 use Rattle.strict.proofs.number.is_number.Statement.{statement}
 use Rattle.strict.proofs.number.is_number.Tie as tie
 

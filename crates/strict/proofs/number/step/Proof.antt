@@ -74,7 +74,9 @@ returns : tie.Need-returns
 returns c = rw (c .before .before .enum-told .given .1, sym (c .before .is-sign .ensures) ∙ c .if1 .taken)
 
 returns-2 : tie.Need-returns-2
-returns-2 c = let l = c .before in rw (l .before .before .enum-told .given .1, sym (l .before .is-sign .ensures) ∙ l .if1 .left) (c .after-sign .ensures)
+returns-2 c =
+    let e = c .before in
+    rw (e .before .before .enum-told .given .1, sym (e .before .is-sign .ensures) ∙ e .if1 .left) (c .after-sign .ensures)
 
 returns-3 : tie.Need-returns-3
 returns-3 c = rw (c .before .enum-told2 .given .1) (c .after-sign2 .ensures)
@@ -92,7 +94,9 @@ returns-7 : tie.Need-returns-7
 returns-7 c = rw (c .before .before .enum-told6 .given .1, sym (c .before .is-sign2 .ensures) ∙ c .if2 .taken)
 
 returns-8 : tie.Need-returns-8
-returns-8 c = let l = c .before in rw (l .before .before .enum-told6 .given .1, sym (l .before .is-sign2 .ensures) ∙ l .if2 .left) (c .after-digit3 .ensures)
+returns-8 c =
+    let e = c .before in
+    rw (e .before .before .enum-told6 .given .1, sym (e .before .is-sign2 .ensures) ∙ e .if2 .left) (c .after-digit3 .ensures)
 
 returns-9 : tie.Need-returns-9
 returns-9 c = rw (c .before .enum-told7 .given .1) (c .after-digit4 .ensures)
@@ -101,7 +105,9 @@ returns-10 : tie.Need-returns-10
 returns-10 c = rw (c .before .before .enum-told8 .given .1, sym (c .before .is-comma .ensures) ∙ c .if3 .taken)
 
 returns-11 : tie.Need-returns-11
-returns-11 c = let l = c .before in rw (l .before .before .enum-told8 .given .1, sym (l .before .is-comma .ensures) ∙ l .if3 .left) (c .after-digit5 .ensures)
+returns-11 c =
+    let e = c .before in
+    rw (e .before .before .enum-told8 .given .1, sym (e .before .is-comma .ensures) ∙ e .if3 .left) (c .after-digit5 .ensures)
 
 returns-12 : tie.Need-returns-12
 returns-12 c = search needs

@@ -2,9 +2,9 @@
 use mathlib.Core.Path.{refl, sym, _∙_}
 use mathlib.Core.Bool.{and-false}
 use native.Mathlib.Omega.{arith}
+use borrow.Author.Needs.{needs}
 use borrow.Author.Tests.{eq-eqb, ne-eqb, not-true, not-false}
 use Rattle.strict.proofs.Tags.{Begins, fine-begins}
-use borrow.Author.Needs.{needs}
 use Rattle.strict.proofs.tag.is_new_field.Statement.{statement}
 use Rattle.strict.proofs.tag.is_new_field.Tie as tie
 

@@ -3,10 +3,10 @@ use mathlib.Core.Path.{_≡_}
 use mathlib.Core.Logic.{⊎-elim}
 use Prim.Native.Nat.{_-_, _+_}
 use native.Mathlib.Omega.{arith}
+use borrow.Author.Needs.{needs}
 use borrow.Author.Tests.{lt-ltb, le-ltb}
 use Rattle.strict.specs.Tag.{letterPlace}
 use Rattle.strict.proofs.Tags.{letter-placed, place-below}
-use borrow.Author.Needs.{needs}
 use Rattle.strict.proofs.tag.letter_place.Statement.{statement}
 use Rattle.strict.proofs.tag.letter_place.Tie as tie
 

@@ -2,10 +2,10 @@
 use mathlib.Core.Path.{sym, _∙_}
 use mathlib.Core.Bool.{and-false}
 use lib.ListN.{length, getD}
+use borrow.Author.Needs.{needs}
 use borrow.Author.Tests.{le-leb, lt-leb, eq-eqb, ne-eqb, not-true, not-false}
 use Rattle.model.specs.Strict.{fineField}
 use Rattle.strict.proofs.Values.{part-to-end}
-use borrow.Author.Needs.{needs}
 use Rattle.strict.proofs.value.fine_field.Statement.{statement}
 use Rattle.strict.proofs.value.fine_field.Tie as tie
 

@@ -1,12 +1,8 @@
 -- `value::fine_value` meets its contract: in each arm the type is known, and with it the value's expression.
 use mathlib.Core.Path.{sym, _∙_}
-use mathlib.Core.Bool.{false}
-use Rattle.model.specs.Strict.{valueOf, integer, float}
-use Rattle.strict.specs.declared.number.Number.the-variants.{Float, Integer}
-use Rattle.strict.proofs.Sequences.{seq-end}
-use Rattle.strict.proofs.Numbers.{run-left}
-use Rattle.strict.proofs.Values.{run-value, no-value}
 use borrow.Author.Needs.{needs}
+use Rattle.model.specs.Strict.{valueOf}
+use Rattle.strict.proofs.Values.{integer-test, float-test, run-value, no-value}
 use Rattle.strict.proofs.value.fine_value.Statement.{statement}
 use Rattle.strict.proofs.value.fine_value.Tie as tie
 
@@ -31,14 +27,16 @@ returns c = rw (c .before .match .keys1) (c .is-one-visible .ensures)
 
 returns-2 : tie.Need-returns-2
 unfolding valueOf
-returns-2 c = rw (c .before .match .keys2) (c .is-number .ensures ∙ run-left false Integer (c .before .before .before .args .v .now) ∙ seq-end integer (c .before .before .before .args .v .now))
+returns-2 c = rw (c .before .match .keys2) (c .is-number .ensures ∙ integer-test (c .before .before .before .args .v .now))
 
 returns-3 : tie.Need-returns-3
 unfolding valueOf
-returns-3 c = rw (c .before .match .keys3) (c .is-number2 .ensures ∙ run-left false Float (c .before .before .before .args .v .now) ∙ seq-end float (c .before .before .before .args .v .now))
+returns-3 c = rw (c .before .match .keys3) (c .is-number2 .ensures ∙ float-test (c .before .before .before .args .v .now))
 
 returns-4 : tie.Need-returns-4
-returns-4 c = c .is-run .ensures ∙ sym (run-value (c .before .before .before .args .t) (c .before .before .before .args .v .now) (c .before .match .keys4))
+returns-4 c =
+    let a = c .before .before .before .args in
+    c .is-run .ensures ∙ sym (run-value (a .t) (a .v .now) (c .before .match .keys4))
 
 returns-5 : tie.Need-returns-5
 unfolding valueOf

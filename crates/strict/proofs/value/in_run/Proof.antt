@@ -1,7 +1,7 @@
 -- `value::in_run` meets its contract: each way is decided by the tests on it.
 use mathlib.Core.Path.{sym, _∙_}
-use borrow.Author.Tests.{eq-eqb, ne-eqb}
 use borrow.Author.Needs.{needs}
+use borrow.Author.Tests.{eq-eqb, ne-eqb}
 use Rattle.strict.proofs.value.in_run.Statement.{statement}
 use Rattle.strict.proofs.value.in_run.Tie as tie
 
@@ -21,7 +21,9 @@ is-hex-letter-requires : tie.Need-is-hex-letter-requires
 is-hex-letter-requires c κs = search needs
 
 returns-3 : tie.Need-returns-3
-returns-3 c = let l = c .before in rw (eq-eqb _ 72 (l .before .before .if1 .left), sym (l .before .is-digit .ensures) ∙ l .if2 .left) (c .is-hex-letter .ensures)
+returns-3 c =
+    let e = c .before in
+    rw (eq-eqb _ 72 (e .before .before .if1 .left), sym (e .before .is-digit .ensures) ∙ e .if2 .left) (c .is-hex-letter .ensures)
 
 pub in-run-spec : {M : Type 1} → statement M
 in-run-spec =

@@ -1,8 +1,8 @@
 -- `value::is_one_visible` meets its contract: the expression of one byte matches texts of length 1 alone.
 use mathlib.Core.Path.{sym, _∙_}
+use borrow.Author.Needs.{needs}
 use Rattle.model.specs.Strict.{visible}
 use Rattle.strict.proofs.Values.{one-byte, not-one-byte}
-use borrow.Author.Needs.{needs}
 use Rattle.strict.proofs.value.is_one_visible.Statement.{statement}
 use Rattle.strict.proofs.value.is_one_visible.Tie as tie
 

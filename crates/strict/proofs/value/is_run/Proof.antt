@@ -1,17 +1,17 @@
 -- `value::is_run` meets its contract. The invariant: the bytes before `i` are of the class, so the others decide.
 use mathlib.Core.Path.{_≡_, sym, _∙_}
 use mathlib.Core.Bool.{true, false, and-true, and-false}
-use lib.Dec.{ltb}
-use borrow.Author.Tests.{not-true, not-false}
-use Rattle.model.specs.Strict.{Class}
 use Prim.Native.Nat.{ℕ, suc, _-_, _<_, _≤_}
 use native.Mathlib.Numerals.{add-one}
+use lib.Dec.{ltb}
 use lib.ListN.{length, drop, getD, drop-of-length-le}
 use lib.Seq.{drop-cons}
+use borrow.Author.Needs.{needs}
+use borrow.Author.Tests.{not-true, not-false}
 use Rattle.model.specs.Bytes.{Bytes}
+use Rattle.model.specs.Strict.{Class}
 use Rattle.strict.specs.Class.{all}
 use Rattle.strict.specs.Value.{runClass}
-use borrow.Author.Needs.{needs}
 use Rattle.strict.proofs.value.is_run.Statement.{statement}
 use Rattle.strict.proofs.value.is_run.Tie as tie
 
@@ -44,9 +44,8 @@ returns : tie.Need-returns Inv-loop μ-loop
 returns c =
     let l = c .before .before .before .before in
     let a = l .before .before .args in
-    rw
-    (l .loop .inv .1 ∙ one-out (runClass (a .t)) (a .v .now) (l .loop .i) (search needs) (sym (c .before .in-run .ensures) ∙ not-true _ (c .if1 .taken)))
-    (sym (and-false (ltb 0 (length (a .v .now)))))
+    let e = one-out (runClass (a .t)) (a .v .now) (l .loop .i) (search needs) (sym (c .before .in-run .ensures) ∙ not-true _ (c .if1 .taken)) in
+    rw (l .loop .inv .1 ∙ e) (sym (and-false (ltb 0 (length (a .v .now)))))
 
 add-i : tie.Need-add-i Inv-loop μ-loop
 add-i c = search needs
