@@ -1,4 +1,4 @@
-pub mod Table
+mod Table
 pub mod Regex
 mod Sequences
 mod Numbers

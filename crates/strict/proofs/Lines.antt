@@ -20,7 +20,6 @@ use Rattle.strict.proofs.Tags.{Marked, marked-none, marked-field, new-t
 
 -- field `number` is the next, behind `at`; the table has the tags before it, and the fields left decide
 pub record Reading (line : Bytes) (end : ℕ) (seen : Bytes) (at number : ℕ) : Type 0 where
-  pub within : at ≤ length line
   pub few : number ≤ at + 1
   pub tags : List Bytes
   pub marked : Marked seen tags
@@ -51,7 +50,6 @@ module _ (line : Bytes) (at e : ℕ) (h : at < length line) (f : e ≡ at + 1 + 
     goes-on d seen′ s =
         let fine = both-true (fineField (fieldAt line at e)) _ (sym g ∙ d) in
         record {
-          within = field-within;
           few = omega (arith, r .few);
           tags = take 2 (fieldAt line at e) ∷ r .tags;
           marked = rw (s, d) (marked-field (fieldAt line at e) seen (r .tags) (fine .0) (r .marked));
@@ -63,9 +61,8 @@ module _ (line : Bytes) (at e : ℕ) (h : at < length line) (f : e ≡ at + 1 + 
     next-field = (λ d. decides ∙ rw d, goes-on)
 
 module _ (line : Bytes) (end : ℕ) (seen : Bytes) where
-  pub read-none : end ≤ length line → seen ≡ replicate 2704 0 → Reading line end seen end 1
-  read-none h e = record {
-    within = h;
+  pub read-none : seen ≡ replicate 2704 0 → Reading line end seen end 1
+  read-none e = record {
     few = omega arith;
     tags = [];
     marked = marked-none seen e;

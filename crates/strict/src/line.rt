@@ -3,14 +3,13 @@ use crate::tag::is_new_field;
 use model::Strictness;
 ghost use mathlib.Core.Path.{_≡_};
 ghost use mathlib.Core.List.{[]};
-ghost use Prim.Native.Nat.{_≤_};
-ghost use lib.ListN.{length, replicate};
+ghost use lib.ListN.{replicate};
 ghost use Rattle.model.specs.Strict.{strictFields, strict};
 ghost use Rattle.strict.specs.Line.{fieldsAfter};
 
 // What the fields after the one that ends at `end` come to; `seen` is the table of tags, and none is seen yet.
 fn check_fields(line: &[u8], end: usize, seen: &mut [u8]) -> Strictness
-    requires { ⌜ (end ≤ length (now line)) × (now seen ≡ replicate 2704 0) ⌝ }
+    requires { ⌜ now seen ≡ replicate 2704 0 ⌝ }
     ensures { λ r. ⌜ r ≡ strictFields 1 [] (fieldsAfter (now (line .entry)) end) ⌝ }
 {
     let mut at = end;

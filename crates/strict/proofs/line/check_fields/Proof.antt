@@ -41,7 +41,7 @@ turn k =
 
 loop-holds : tie.Need-loop-holds Inv-loop μ-loop
 loop-holds c =
-    let s = c .before .before in read-none (s .args .line .now) (s .args .end) (s .args .seen .now) (s .pre .0) (s .pre .1)
+    let s = c .before .before in read-none (s .args .line .now) (s .args .end) (s .args .seen .now) (s .pre)
 
 add-start : tie.Need-add-start Inv-loop μ-loop
 add-start c = search needs
@@ -67,7 +67,7 @@ same-length : tie.Need-same-length Inv-loop μ-loop
 same-length c =
     let k = c .before .before .before in
     let l = found k .before .before in
-    k .is-new-field .kept .1 .0 ∙ l .loop .inv .marked .whole ∙ sym (ap length (start l .pre .1))
+    k .is-new-field .kept .1 .0 ∙ l .loop .inv .marked .whole ∙ sym (ap length (start l .pre))
 
 returns : tie.Need-returns Inv-loop μ-loop
 returns c = turn (c .before .before .before) .0 (not-true _ (c .if1 .taken))
@@ -86,7 +86,7 @@ loop-again : tie.Need-loop-again Inv-loop μ-loop
 loop-again c = turn (c .before .before .before) .1 (not-false _ (c .if1 .left))
 
 same-length-2 : tie.Need-same-length-2 Inv-loop μ-loop
-same-length-2 c = c .before .loop .inv .marked .whole ∙ sym (ap length (start (c .before) .pre .1))
+same-length-2 c = c .before .loop .inv .marked .whole ∙ sym (ap length (start (c .before) .pre))
 
 returns-2 : tie.Need-returns-2 Inv-loop μ-loop
 returns-2 c =

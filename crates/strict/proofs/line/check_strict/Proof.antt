@@ -38,9 +38,7 @@ slice-aggregate-check-fields : tie.Need-slice-aggregate-check-fields
 slice-aggregate-check-fields c = search needs
 
 check-fields-requires : tie.Need-check-fields-requires
-check-fields-requires c κs =
-    let b = c .before .before .before .before .before in
-    (first-within _ (b .find-byte .result) (b .find-byte .ensures), refl)
+check-fields-requires c κs = refl
 
 returns-2 : tie.Need-returns-2
 returns-2 c =
