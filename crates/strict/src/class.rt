@@ -1,4 +1,4 @@
-// The five classes of bytes, by one table.
+// The five classes of bytes, by one table, and whether a byte is one of some.
 ghost use mathlib.Core.Path.{_≡_};
 ghost use Rattle.model.specs.Strict.{digit, hexLetter, letter, visible, printable};
 ghost use Rattle.strict.specs.Class.{Classes, isOneOf};
