@@ -7,6 +7,7 @@ use record::GivenPart;
 ghost use mathlib.Core.Path.{_≡_};
 ghost use Rattle.model.specs.declared.Kind.the-variants.{Subgraph, Translation};
 ghost use Rattle.model.specs.Questions.{numberOf, valueOr, countsIn, nameIn, nameAtIn, pairAtIn, isSameIn};
+ghost use Rattle.record.specs.Answers.{partGiven};
 ghost use Rattle.graph_name.specs.Values.{oneIf, isPresent, startOf, sizeOf, fromStart, fromSize, toStart, toSize};
 
 // How many distinct names and how many pairs of each kind.
@@ -50,21 +51,7 @@ pub extern "C" fn graph_name_name(
     ensures { λ _. ⌜ now (start .exit) ≡ valueOr (now (start .entry)) startOf (nameIn (now (buf .entry))) ⌝ }
     ensures { λ _. ⌜ now (length .exit) ≡ valueOr (now (length .entry)) sizeOf (nameIn (now (buf .entry))) ⌝ }
 {
-    match record::name(buf) {
-        GivenPart::Refused(n) => n,
-        GivenPart::Absent => {
-            *present = 0;
-            *start = 0;
-            *length = 0;
-            0
-        }
-        GivenPart::At { start: s, size: k } => {
-            *present = 1;
-            *start = s as u64;
-            *length = k as u64;
-            0
-        }
-    }
+    part_out(record::name(buf), present, start, length)
 }
 
 // The name at a place, in ascending order from 0, likewise.
@@ -81,7 +68,22 @@ pub extern "C" fn graph_name_name_at(
     ensures { λ _. ⌜ now (start .exit) ≡ valueOr (now (start .entry)) startOf (nameAtIn (now (buf .entry)) place) ⌝ }
     ensures { λ _. ⌜ now (length .exit) ≡ valueOr (now (length .entry)) sizeOf (nameAtIn (now (buf .entry)) place) ⌝ }
 {
-    match record::name_place(buf, place as usize) {
+    part_out(
+        record::name_place(buf, place as usize),
+        present,
+        start,
+        length,
+    )
+}
+
+// Hands out a part: whether there is one, where it starts and how long it is.
+fn part_out(given: GivenPart, present: &mut u64, start: &mut u64, length: &mut u64) -> u32
+    ensures { λ r. ⌜ r ≡ numberOf (partGiven given) ⌝ }
+    ensures { λ _. ⌜ now (present .exit) ≡ valueOr (now (present .entry)) isPresent (partGiven given) ⌝ }
+    ensures { λ _. ⌜ now (start .exit) ≡ valueOr (now (start .entry)) startOf (partGiven given) ⌝ }
+    ensures { λ _. ⌜ now (length .exit) ≡ valueOr (now (length .entry)) sizeOf (partGiven given) ⌝ }
+{
+    match given {
         GivenPart::Refused(n) => n,
         GivenPart::Absent => {
             *present = 0;

@@ -131,13 +131,13 @@ pub fn is_same(b: &[u8], c: &[u8]) -> GivenBool
     if wrong != 0 {
         return GivenBool::Refused(wrong);
     }
-    let own = read16(b, 2);
+    let mine = read16(b, 2);
     let other = read16(c, 2);
-    if own == 0 {
+    if mine == 0 {
         return GivenBool::Is(false);
     }
     if other == 0 {
         return GivenBool::Is(false);
     }
-    GivenBool::Is(text::same(name_at(b, own - 1), name_at(c, other - 1)))
+    GivenBool::Is(text::same(name_at(b, mine - 1), name_at(c, other - 1)))
 }
