@@ -1,7 +1,9 @@
 -- The numbers that an answer is handed out as: 1 and 0 for yes and no, and 0 beside a part that is not there. Assumes nothing.
 use mathlib.Core.Bool.{Bool, true, false}
 use mathlib.Core.Option.{Option, some, none}
-use Prim.Native.Nat.{ℕ}
+use Prim.Native.Nat.{ℕ, _+_}
+use Rattle.model.specs.declared.Strictness.{Strictness}
+use Rattle.model.specs.declared.Strictness.the-variants.{Fine, Faulty}
 use Rattle.model.specs.Questions.{Part, PairParts}
 
 abbrev pub oneIf : Bool → ℕ
@@ -33,3 +35,8 @@ toStart = orZero (λ (p : PairParts). p .to .start)
 
 abbrev pub toSize : Option PairParts → ℕ
 toSize = orZero (λ (p : PairParts). p .to .size)
+
+-- 0 for fine, else one more than the number of the first faulty field
+abbrev pub strictNumber : Strictness → ℕ
+strictNumber Fine = 0
+strictNumber (Faulty n) = n + 1

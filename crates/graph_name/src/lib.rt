@@ -2,8 +2,10 @@
 //
 // The result is document 01's number, 0 for done. A number behind a `&mut u64` is written on 0 only. Each promise is an equation with a
 // definition of `model/specs`, on the arguments alone.
+mod lines;
 mod records;
 
+pub use lines::graph_name_check_strict;
 pub use records::graph_name_counts;
 pub use records::graph_name_is_same;
 pub use records::graph_name_name;

@@ -5,3 +5,4 @@ mod Numbers
 mod Values
 mod Tags
 mod Lines
+pub mod Bound
