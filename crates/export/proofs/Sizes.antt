@@ -4,7 +4,7 @@ use mathlib.Core.Logic.{_⊎_, inl, inr, ⊎-elim, _↔_}
 use mathlib.Core.Bool.{Bool, true, false, cond, _||_}
 use mathlib.Core.List.{List, [], _∷_, _++_, List·Memᴰ, List·Memᴰ·head, List·Memᴰ·tail, List·Memᴰ·not-nil, List·Memᴰ·cases-cons, List·Memᴰ·append-cases, Memᴰ·append-left, Memᴰ·append-right}
 use mathlib.Core.Option.{Option, some}
-use Prim.Native.Nat.{ℕ, _+_, _≤_, _<_}
+use Prim.Native.Nat.{ℕ, _+_, _≤_}
 use native.Mathlib.Omega.{arith}
 use lib.Dec.{ltb}
 use lib.ListN.{length, length-append}
@@ -180,10 +180,10 @@ judge-front n s s′ t t′ e =
     among z m =
         ⊎-elim
         (λ (k : List·Memᴰ z (ownName n ++ pairNames s)). Memᴰ·append-left (pairNames (t ++ t′))
-            (⊎-elim
-            (λ (o : List·Memᴰ z (ownName n)). Memᴰ·append-left (pairNames (s ++ s′)) o)
-            (λ (o : List·Memᴰ z (pairNames s)). Memᴰ·append-right (ownName n) (front s s′ z o))
-            (List·Memᴰ·append-cases (ownName n) k)))
+        (⊎-elim
+        (λ (o : List·Memᴰ z (ownName n)). Memᴰ·append-left (pairNames (s ++ s′)) o)
+        (λ (o : List·Memᴰ z (pairNames s)). Memᴰ·append-right (ownName n) (front s s′ z o))
+        (List·Memᴰ·append-cases (ownName n) k)))
         (λ (k : List·Memᴰ z (pairNames t)). Memᴰ·append-right (ownName n ++ pairNames (s ++ s′)) (front t t′ z k))
         (List·Memᴰ·append-cases (ownName n ++ pairNames s) m)
 
