@@ -4,3 +4,6 @@ pub mod Adding
 pub mod Lines
 pub mod ReadBack
 pub mod Lengths
+pub mod Writes
+pub mod Runs
+pub mod Wording

@@ -5,6 +5,7 @@ pub mod Record
 pub mod Layout
 pub mod Questions
 pub mod Reading
+pub mod Message
 pub mod Writing
 pub mod Path
 pub mod Describe

@@ -1,0 +1,101 @@
+// The pairs of a record as text: lines of either format, and the relations of a tag.
+use text::copy;
+use text::part;
+use text::put_byte;
+use text::read16;
+ghost use mathlib.Core.Path.{_≡_};
+ghost use mathlib.Core.List.{[], _∷_};
+ghost use Prim.Native.Nat.{_+_, _*_, _≤_, _<_};
+ghost use lib.ListN.{length};
+ghost use Rattle.model.specs.Bytes.{put};
+ghost use Rattle.model.specs.Numbers.{number};
+ghost use Rattle.model.specs.Record.{Pair};
+ghost use Rattle.model.specs.Layout.{nameAt, pairsFrom};
+ghost use Rattle.export.specs.Texts.{pairText, pairTexts, pairsSize};
+ghost use Rattle.export.specs.Places.{PairsIn};
+
+// The i-th name of a record whose bodies begin at `bodies`.
+fn name_at(b: &[u8], bodies: usize, i: usize) -> &[u8]
+    requires { ⌜ (length (now b) ≡ 32768) × (i < 1024) × (bodies ≡ 8 + 4 * (number (now b) 0 + number (now b) 4 + number (now b) 6)) ⌝ }
+    ensures { λ r. ⌜ now r ≡ nameAt (now (b .entry)) i ⌝ }
+{
+    let entry = 8 + 4 * i;
+    part(b, bodies + read16(b, entry), read16(b, entry + 2))
+}
+
+// Where the bodies of a record begin.
+fn bodies_at(b: &[u8]) -> usize
+    requires { ⌜ length (now b) ≡ 32768 ⌝ }
+    ensures { λ r. ⌜ r ≡ 8 + 4 * (number (now (b .entry)) 0 + number (now (b .entry)) 4 + number (now (b .entry)) 6) ⌝ }
+{
+    8 + 4 * (read16(b, 0) + read16(b, 4) + read16(b, 6))
+}
+
+// How long the text of `count` pairs from byte `pairs` on is, with `beyond` bytes besides the two names of each.
+fn pairs_length(b: &[u8], pairs: usize, count: usize, beyond: usize) -> usize
+    requires { ⌜ PairsIn (now b) pairs count × (beyond ≤ 16) ⌝ }
+    ensures { λ r. ⌜ r ≡ pairsSize beyond (pairsFrom (now (b .entry)) pairs count) ⌝ }
+{
+    let bodies = bodies_at(b);
+    let mut size = 0;
+    let mut p = pairs;
+    let mut left = count;
+    while 0 < left {
+        let from = name_at(b, bodies, read16(b, p));
+        let to = name_at(b, bodies, read16(b, p + 2));
+        size += beyond + from.len() + to.len();
+        p += 4;
+        left -= 1;
+    }
+    size
+}
+
+// Writes a pair's two names with `before`, `between` and `after`.
+fn put_pair(
+    out: &mut [u8],
+    at: usize,
+    before: &[u8],
+    from: &[u8],
+    between: u8,
+    to: &[u8],
+    after: &[u8],
+) -> usize
+    requires { ⌜ at + length (pairText (now before) between (now after) (record { from = now from; to = now to })) ≤ length (now out) ⌝ }
+    ensures { λ r. ⌜ (r ≡ at + length (pairText (now (before .entry)) between (now (after .entry)) (record { from = now (from .entry); to = now (to .entry) })))
+        × (now (out .exit) ≡ put (now (out .entry)) at (pairText (now (before .entry)) between (now (after .entry)) (record { from = now (from .entry); to = now (to .entry) }))) ⌝ }
+{
+    let p = copy(out, at, before);
+    let q = copy(out, p, from);
+    let r = put_byte(out, q, between);
+    let s = copy(out, r, to);
+    copy(out, s, after)
+}
+
+// Writes the `count` pairs from byte `pairs` on, each with `before`, `between` and `after`.
+fn put_pairs(
+    out: &mut [u8],
+    at: usize,
+    b: &[u8],
+    pairs: usize,
+    count: usize,
+    before: &[u8],
+    between: u8,
+    after: &[u8],
+) -> usize
+    requires { ⌜ PairsIn (now b) pairs count × (at + length (pairTexts (now before) between (now after) (pairsFrom (now b) pairs count)) ≤ length (now out)) ⌝ }
+    ensures { λ r. ⌜ (r ≡ at + length (pairTexts (now (before .entry)) between (now (after .entry)) (pairsFrom (now (b .entry)) pairs count)))
+        × (now (out .exit) ≡ put (now (out .entry)) at (pairTexts (now (before .entry)) between (now (after .entry)) (pairsFrom (now (b .entry)) pairs count))) ⌝ }
+{
+    let bodies = bodies_at(b);
+    let mut q = at;
+    let mut p = pairs;
+    let mut left = count;
+    while 0 < left {
+        let from = name_at(b, bodies, read16(b, p));
+        let to = name_at(b, bodies, read16(b, p + 2));
+        q = put_pair(out, q, before, from, between, to, after);
+        p += 4;
+        left -= 1;
+    }
+    q
+}
