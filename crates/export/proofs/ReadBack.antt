@@ -10,6 +10,7 @@ use lib.Dec.{leb}
 use lib.ListN.{length}
 use lib.Seq.{append-snoc}
 use borrow.Author.Tests.{le-leb}
+use Rattle.model.specs.declared.Kind.the-variants.{Subgraph, Translation}
 use Rattle.model.specs.Text.{text}
 use Rattle.model.specs.Bytes.{Bytes, sameBytes, compareBytes, compareNumbers, split, indexOf}
 use Rattle.model.specs.Record.{Pair, GraphName, empty, withName}
@@ -55,10 +56,10 @@ gaf-reads-back g v plain =
           (rw (one-name empty n (a .0)) (name-alone g v n e));
     })
     (λ p m.
-    let named = pair-named g p (inl m) in
+    let named = pair-named g Subgraph p m in
     gaf-adds 83 71 7 (λ h fs. refl) (absent 9 _ refl) (absent 10 _ refl) p (plain _ (named .0)) (plain _ (named .1)))
     (λ p m.
-    let named = pair-named g p (inr m) in
+    let named = pair-named g Translation p m in
     gaf-adds 84 76 8 (λ h fs. refl) (absent 9 _ refl) (absent 10 _ refl) p (plain _ (named .0)) (plain _ (named .1)))
 
 -- ------------------------------------------------------------------ GFA
@@ -94,11 +95,11 @@ gfa-reads-back g v clean pairs =
           (rw (five n) (name-alone g v n e));
     })
     (λ p m.
-    let named = pair-named g p (inl m) in
+    let named = pair-named g Subgraph p m in
     let ends = pairs p (inl m) in
     gfa-adds 83 71 4 (λ h w. rw (five w)) (absent 9 _ refl) (absent 10 _ refl) p (ends .0) (ends .1) (clean _ (named .0)) (clean _ (named .1)))
     (λ p m.
-    let named = pair-named g p (inr m) in
+    let named = pair-named g Translation p m in
     let ends = pairs p (inr m) in
     gfa-adds 84 76 5 (λ h w. rw (five w)) (absent 9 _ refl) (absent 10 _ refl) p (ends .0) (ends .1) (clean _ (named .0)) (clean _ (named .1)))
 

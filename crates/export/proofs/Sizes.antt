@@ -1,21 +1,25 @@
 -- A part of a graph name is within the sizes where the whole is: its names are among the whole's.
 use mathlib.Core.Path.{_≡_, refl, sym, ap, _∙_}
 use mathlib.Core.Logic.{_⊎_, inl, inr, ⊎-elim, _↔_}
-use mathlib.Core.Bool.{Bool, true, false, cond, _||_}
+use mathlib.Core.Bool.{false}
 use mathlib.Core.List.{List, [], _∷_, _++_, List·Memᴰ, List·Memᴰ·head, List·Memᴰ·tail, List·Memᴰ·not-nil, List·Memᴰ·cases-cons, List·Memᴰ·append-cases, Memᴰ·append-left, Memᴰ·append-right}
 use mathlib.Core.Option.{Option, some}
 use Prim.Native.Nat.{ℕ, _+_, _≤_}
 use native.Mathlib.Omega.{arith}
-use lib.Dec.{ltb}
 use lib.ListN.{length, length-append}
 use borrow.Author.Tests.{ltb-false, le-ltb}
 use Rattle.model.specs.declared.Order.{Order}
+use Rattle.model.specs.declared.Kind.{Kind}
+use Rattle.model.specs.Questions.{pairsOf}
 use Rattle.model.specs.declared.Order.the-variants.{Less}
-use Rattle.model.specs.Bytes.{Bytes, compareBytes}
+use Rattle.model.specs.Bytes.{Bytes}
 use Rattle.model.specs.Record.{Pair, GraphName, names, anyLong, bodies, judge, ownName, pairNames}
 use Rattle.model.specs.Statements.{Ascending}
+use Rattle.text.proofs.Tests.{either-false}
+use Rattle.record.proofs.Names.{allNames, names-ascending, names-members, own-listed, pair-listed}
+use Rattle.record.proofs.Sizes.{Sizes, judge-sizes, sizes-judge}
 use Rattle.text.proofs.Order.{StrictOrder, bytes-order}
-use Rattle.text.proofs.Ascending.{ascending-tail, ascending-below, less-irrefl, less-asym, insertAll-ascending, insertAll-members}
+use Rattle.text.proofs.Ascending.{ascending-tail, ascending-below, less-irrefl, less-asym}
 
 -- ------------------------------------------------------------------ sums over an ascending list
 
@@ -75,76 +79,15 @@ short-names : (ns : List Bytes) → anyLong ns ≡ false ↔ ((n : Bytes) → Li
 short-names [] = (λ e n m. absurd (List·Memᴰ·not-nil m), λ h. refl)
 short-names (x ∷ xs) = (
   λ e n m.
-      let p = neither _ _ e in
+      let p = either-false _ _ e in
       ⊎-elim (λ (d : n ≡ x). omega (arith, ltb-false 256 (length x) (p .0), ap length d)) (short-names xs .0 (p .1) n) (List·Memᴰ·cases-cons m),
   λ h. rw (le-ltb 256 (length x) (h x (List·Memᴰ·head refl)), short-names xs .1 (λ n m. h n (List·Memᴰ·tail m))),
 )
-  where
-    neither : (s t : Bool) → s || t ≡ false → (s ≡ false) × (t ≡ false)
-    neither true t e = (e, cc)
-    neither false t e = (refl, e)
-
--- what none of the numbers 11 to 14 says
-pub record Sized (g : GraphName) : Type 0 where
-  pub short : (n : Bytes) → List·Memᴰ n (names g) → length n ≤ 256
-  pub count : length (names g) ≤ 512
-  pub subgraphs : length (g .subgraph) ≤ 1024
-  pub translations : length (g .translation) ≤ 1024
-  pub space : length (bodies (names g)) ≤ 22520
-
-sized : (g : GraphName) → judge g ≡ 0 → Sized g
-unfolding judge
-sized g e = go _ refl _ refl _ refl _ refl _ refl e
-  where
-    go : (a : Bool) → anyLong (names g) ≡ a → (b : Bool) → ltb 512 (length (names g)) ≡ b → (c : Bool) → ltb 1024 (length (g .subgraph)) ≡ c
-        → (d : Bool) → ltb 1024 (length (g .translation)) ≡ d → (e : Bool) → ltb 22520 (length (bodies (names g))) ≡ e
-        → _≡_ {A = ℕ} (cond a 11 (cond b 12 (cond (c || d) 13 (cond e 14 0)))) 0 → Sized g
-    go true p b q c r d s e t z = absurd (omega arith)
-    go false p true q c r d s e t z = absurd (omega arith)
-    go false p false q true r d s e t z = absurd (omega arith)
-    go false p false q false r true s e t z = absurd (omega arith)
-    go false p false q false r false s true t z = absurd (omega arith)
-    go false p false q false r false s false t z = record {
-      short = short-names (names g) .0 p;
-      count = ltb-false 512 _ q;
-      subgraphs = ltb-false 1024 _ r;
-      translations = ltb-false 1024 _ s;
-      space = ltb-false 22520 _ t;
-    }
-
-pub judge-sized : (g : GraphName) → judge g ≡ 0 ↔ Sized g
-unfolding judge
-judge-sized g = (
-  sized g,
-  λ s. rw (
-    short-names (names g) .1 (s .short),
-    le-ltb 512 (length (names g)) (s .count),
-    le-ltb 1024 (length (g .subgraph)) (s .subgraphs),
-    le-ltb 1024 (length (g .translation)) (s .translations),
-    le-ltb 22520 (length (bodies (names g))) (s .space),
-  ),
-)
-
--- ------------------------------------------------------------------ names
-
--- the names that stand in a graph name, as often as they do
-abbrev pub mentioned : GraphName → List Bytes
-mentioned g = ownName (g .name) ++ pairNames (g .subgraph) ++ pairNames (g .translation)
-
-pub names-ascending : (g : GraphName) → Ascending compareBytes (names g)
-unfolding names
-names-ascending g = insertAll-ascending bytes-order _ [] (unfold Ascending in tt)
-
-pub names-members : (g : GraphName) (z : Bytes) → List·Memᴰ z (names g) ↔ List·Memᴰ z (mentioned g)
-unfolding names
-names-members g z =
-    let i = insertAll-members bytes-order (mentioned g) [] z in
-    (λ m. ⊎-elim (λ (n : List·Memᴰ z (mentioned g)). n) (λ (n : List·Memᴰ z []). absurd (List·Memᴰ·not-nil n)) (i .0 m), λ m. i .1 (inl m))
 
 -- fewer names and fewer pairs are within the sizes as well
-pub judge-fewer : (g h : GraphName) → Among (mentioned h) (mentioned g) → length (h .subgraph) ≤ length (g .subgraph)
+pub judge-fewer : (g h : GraphName) → Among (allNames h) (allNames g) → length (h .subgraph) ≤ length (g .subgraph)
     → length (h .translation) ≤ length (g .translation) → judge g ≡ 0 → judge h ≡ 0
-judge-fewer g h m s t e = judge-sized h .1 (fits (judge-sized g .0 e))
+judge-fewer g h m s t e = sizes-judge h (fits (judge-sizes g e))
   where
     among : Among (names h) (names g)
     among n k = names-members g n .1 (m n (names-members h n .0 k))
@@ -152,13 +95,13 @@ judge-fewer g h m s t e = judge-sized h .1 (fits (judge-sized g .0 e))
     fewer : (w : Bytes → ℕ) → total w (names h) ≤ total w (names g)
     fewer w = total-among bytes-order w (names h) (names g) (names-ascending h) (names-ascending g) among
 
-    fits : Sized g → Sized h
+    fits : Sizes g → Sizes h
     fits z = record {
-      short = λ n k. z .short n (among n k);
+      short = short-names (names h) .1 (λ n k. short-names (names g) .0 (z .short) n (among n k));
       count = omega (arith, length-total (names h), length-total (names g), fewer (λ n. 1));
       subgraphs = omega arith;
       translations = omega arith;
-      space = omega (arith, bodies-total (names h), bodies-total (names g), fewer length);
+      room = omega (arith, bodies-total (names h), bodies-total (names g), fewer length);
     }
 
 -- ------------------------------------------------------------------ the first pairs of each kind
@@ -198,17 +141,7 @@ pair-mentioned (q ∷ qs) p m = go (List·Memᴰ·cases-cons m) (pair-mentioned 
     go (inr n) rest = let r = rest n in (List·Memᴰ·tail (List·Memᴰ·tail (r .0)), List·Memᴰ·tail (List·Memᴰ·tail (r .1)))
 
 pub own-named : (g : GraphName) (n : Bytes) → g .name ≡ some n → List·Memᴰ n (names g)
-own-named g n e =
-    let m : List·Memᴰ n (ownName (g .name)) = rw e (List·Memᴰ·head refl) in
-    names-members g n .1 (Memᴰ·append-left (pairNames (g .translation)) (Memᴰ·append-left (pairNames (g .subgraph)) m))
+own-named g n e = let m : List·Memᴰ n (ownName (g .name)) = rw e (List·Memᴰ·head refl) in own-listed g n m
 
-pub pair-named : (g : GraphName) (p : Pair) → List·Memᴰ p (g .subgraph) ⊎ List·Memᴰ p (g .translation)
-    → List·Memᴰ (p .from) (names g) × List·Memᴰ (p .to) (names g)
-pair-named g p (inl m) = let r = pair-mentioned (g .subgraph) p m in (named (p .from) (r .0), named (p .to) (r .1))
-  where
-    named : (z : Bytes) → List·Memᴰ z (pairNames (g .subgraph)) → List·Memᴰ z (names g)
-    named z k = names-members g z .1 (Memᴰ·append-left (pairNames (g .translation)) (Memᴰ·append-right (ownName (g .name)) k))
-pair-named g p (inr m) = let r = pair-mentioned (g .translation) p m in (named (p .from) (r .0), named (p .to) (r .1))
-  where
-    named : (z : Bytes) → List·Memᴰ z (pairNames (g .translation)) → List·Memᴰ z (names g)
-    named z k = names-members g z .1 (Memᴰ·append-right (ownName (g .name) ++ pairNames (g .subgraph)) k)
+pub pair-named : (g : GraphName) (k : Kind) (p : Pair) → List·Memᴰ p (pairsOf k g) → List·Memᴰ (p .from) (names g) × List·Memᴰ (p .to) (names g)
+pair-named g k p m = let r = pair-mentioned (pairsOf k g) p m in (pair-listed g k (p .from) (r .0), pair-listed g k (p .to) (r .1))
