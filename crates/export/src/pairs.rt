@@ -4,45 +4,33 @@ use text::part;
 use text::put_byte;
 use text::read16;
 ghost use mathlib.Core.Path.{_≡_};
-ghost use mathlib.Core.List.{[], _∷_};
-ghost use Prim.Native.Nat.{_+_, _*_, _≤_, _<_};
+ghost use Prim.Native.Nat.{_+_, _≤_, _<_};
 ghost use lib.ListN.{length};
 ghost use Rattle.model.specs.Bytes.{put};
-ghost use Rattle.model.specs.Numbers.{number};
-ghost use Rattle.model.specs.Record.{Pair};
 ghost use Rattle.model.specs.Layout.{nameAt, pairsFrom};
 ghost use Rattle.export.specs.Texts.{pairText, pairTexts, pairsSize};
 ghost use Rattle.export.specs.Places.{PairsIn};
 
-// The i-th name of a record whose bodies begin at `bodies`.
-fn name_at(b: &[u8], bodies: usize, i: usize) -> &[u8]
-    requires { ⌜ (length (now b) ≡ 32768) × (i < 1024) × (bodies ≡ 8 + 4 * (number (now b) 0 + number (now b) 4 + number (now b) 6)) ⌝ }
+// The name at place i.
+pub fn name_at(b: &[u8], i: usize) -> &[u8]
+    requires { ⌜ (length (now b) ≡ 32768) × (i < 8190) ⌝ }
     ensures { λ r. ⌜ now r ≡ nameAt (now (b .entry)) i ⌝ }
 {
-    let entry = 8 + 4 * i;
-    part(b, bodies + read16(b, entry), read16(b, entry + 2))
-}
-
-// Where the bodies of a record begin.
-fn bodies_at(b: &[u8]) -> usize
-    requires { ⌜ length (now b) ≡ 32768 ⌝ }
-    ensures { λ r. ⌜ r ≡ 8 + 4 * (number (now (b .entry)) 0 + number (now (b .entry)) 4 + number (now (b .entry)) 6) ⌝ }
-{
-    8 + 4 * (read16(b, 0) + read16(b, 4) + read16(b, 6))
+    let bodies = 8 + 4 * (read16(b, 0) + read16(b, 4) + read16(b, 6));
+    part(b, bodies + read16(b, 8 + 4 * i), read16(b, 8 + 4 * i + 2))
 }
 
 // How long the text of `count` pairs from byte `pairs` on is, with `beyond` bytes besides the two names of each.
-fn pairs_length(b: &[u8], pairs: usize, count: usize, beyond: usize) -> usize
+pub fn pairs_length(b: &[u8], pairs: usize, count: usize, beyond: usize) -> usize
     requires { ⌜ PairsIn (now b) pairs count × (beyond ≤ 16) ⌝ }
-    ensures { λ r. ⌜ r ≡ pairsSize beyond (pairsFrom (now (b .entry)) pairs count) ⌝ }
+    ensures { λ r. ⌜ (r ≡ pairsSize beyond (pairsFrom (now (b .entry)) pairs count)) × (r < 4294967296) ⌝ }
 {
-    let bodies = bodies_at(b);
     let mut size = 0;
     let mut p = pairs;
     let mut left = count;
     while 0 < left {
-        let from = name_at(b, bodies, read16(b, p));
-        let to = name_at(b, bodies, read16(b, p + 2));
+        let from = name_at(b, read16(b, p));
+        let to = name_at(b, read16(b, p + 2));
         size += beyond + from.len() + to.len();
         p += 4;
         left -= 1;
@@ -51,7 +39,7 @@ fn pairs_length(b: &[u8], pairs: usize, count: usize, beyond: usize) -> usize
 }
 
 // Writes a pair's two names with `before`, `between` and `after`.
-fn put_pair(
+pub fn put_pair(
     out: &mut [u8],
     at: usize,
     before: &[u8],
@@ -72,7 +60,7 @@ fn put_pair(
 }
 
 // Writes the `count` pairs from byte `pairs` on, each with `before`, `between` and `after`.
-fn put_pairs(
+pub fn put_pairs(
     out: &mut [u8],
     at: usize,
     b: &[u8],
@@ -86,13 +74,12 @@ fn put_pairs(
     ensures { λ r. ⌜ (r ≡ at + length (pairTexts (now (before .entry)) between (now (after .entry)) (pairsFrom (now (b .entry)) pairs count)))
         × (now (out .exit) ≡ put (now (out .entry)) at (pairTexts (now (before .entry)) between (now (after .entry)) (pairsFrom (now (b .entry)) pairs count))) ⌝ }
 {
-    let bodies = bodies_at(b);
     let mut q = at;
     let mut p = pairs;
     let mut left = count;
     while 0 < left {
-        let from = name_at(b, bodies, read16(b, p));
-        let to = name_at(b, bodies, read16(b, p + 2));
+        let from = name_at(b, read16(b, p));
+        let to = name_at(b, read16(b, p + 2));
         q = put_pair(out, q, before, from, between, to, after);
         p += 4;
         left -= 1;
