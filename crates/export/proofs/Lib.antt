@@ -7,3 +7,5 @@ pub mod Lengths
 pub mod Writes
 pub mod Runs
 pub mod Wording
+pub mod Opened
+pub mod Answering

@@ -4,6 +4,7 @@ use Prim.Native.Nat.{ℕ, zero, suc, _+_, _*_, _≤_, _<_}
 use lib.ListN.{length}
 use Rattle.model.specs.Bytes.{Bytes}
 use Rattle.model.specs.Numbers.{number}
+use Rattle.record.specs.Test.{subgraphAt, translationAt}
 
 -- the places of `count` pairs from byte `at` on are below n
 unfoldable pub PlacesBelow : ℕ → Bytes → ℕ → ℕ → Type 0
@@ -15,3 +16,10 @@ pub record PairsIn (b : Bytes) (at count : ℕ) : Type 0 where
   pub size : length b ≡ 32768
   pub end : at + 4 * count ≤ 32768
   pub places : PlacesBelow 1024 b at count
+
+-- the own name's place and both runs of pairs of a record
+pub record RecordIn (b : Bytes) : Type 0 where
+  pub size : length b ≡ 32768
+  pub own : number b 2 ≤ 1024
+  pub subgraph : PairsIn b (subgraphAt b) (number b 4)
+  pub translation : PairsIn b (translationAt b) (number b 6)

@@ -4,7 +4,8 @@ use mathlib.Core.Option.{Option, some, none}
 use Prim.Native.Nat.{ℕ, _+_}
 use lib.ListN.{length}
 use Rattle.model.specs.Bytes.{Bytes}
-use Rattle.model.specs.Record.{Pair}
+use Rattle.model.specs.Record.{Pair, GraphName}
+use Rattle.model.specs.Writing.{nameLine, pairLines}
 
 -- a pair's two names with `before`, `between` and `after`
 abbrev pub pairText : Bytes → ℕ → Bytes → Pair → Bytes
@@ -23,3 +24,12 @@ nameSize beyond (some n) = beyond + length n
 unfoldable pub pairsSize : ℕ → List Pair → ℕ
 pairsSize beyond [] = 0
 pairsSize beyond (p ∷ ps) = beyond + length (p .from) + length (p .to) + pairsSize beyond ps
+
+-- the lines of a format, by what stands before the own name and before a pair of each kind, and between two names
+abbrev pub headerLines : Bytes → Bytes → Bytes → ℕ → GraphName → Bytes
+headerLines name subgraph translation between g =
+    nameLine name (g .name) ++ pairLines subgraph between (g .subgraph) ++ pairLines translation between (g .translation)
+
+-- their size, with so many bytes beyond the own name and beyond the two names of a pair
+abbrev pub headerSize : ℕ → ℕ → GraphName → ℕ
+headerSize name pair g = nameSize name (g .name) + pairsSize pair (g .subgraph) + pairsSize pair (g .translation)

@@ -1,4 +1,5 @@
 // The Rust's error texts for the numbers 1 to 10, in three parts: the line, the words of the number, and the quoted part.
+use crate::answer::Written;
 use text::copy;
 use text::decimal_length;
 use text::put_decimal;
@@ -7,7 +8,9 @@ ghost use Prim.Native.Nat.{_+_, _≤_, _<_};
 ghost use lib.ListN.{length};
 ghost use Rattle.model.specs.Bytes.{put};
 ghost use Rattle.model.specs.Message.{errorMessage};
+ghost use Rattle.model.specs.Written.{messageWritten};
 ghost use Rattle.export.specs.Words.{lineWords, numberWords, quoted};
+ghost use Rattle.export.specs.Answers.{Answers};
 
 // Writes the words that name the line, for the numbers 1 and 2.
 fn put_line(out: &mut [u8], at: usize, number: usize, line: usize) -> usize
@@ -115,4 +118,14 @@ fn put_message(out: &mut [u8], at: usize, number: usize, line: usize, part: &[u8
     let p = put_line(out, at, number, line);
     let q = put_words(out, p, number);
     put_quoted(out, q, number, part)
+}
+
+// Writes a refusal's text, as the Rust words it: the number, the line and the quoted part are those that a reading gave.
+pub fn error_message(number: usize, line: usize, part: &[u8], out: &mut [u8]) -> Written
+    ensures { λ r. ⌜ Answers (messageWritten number line (now (part .entry)) (length (now (out .entry)))) (now (out .entry)) r (now (out .exit)) ⌝ }
+{
+    if out.len() < message_length(number, line, part) {
+        return Written::Refused(17);
+    }
+    Written::Wrote(put_message(out, 0, number, line, part))
 }

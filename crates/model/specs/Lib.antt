@@ -7,6 +7,7 @@ pub mod Questions
 pub mod Reading
 pub mod Message
 pub mod Writing
+pub mod Written
 pub mod Path
 pub mod Describe
 pub mod Strict

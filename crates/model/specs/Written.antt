@@ -1,0 +1,70 @@
+-- What the writers give, from their arguments alone: the number of a refusal, or the bytes that go to the front of an output.
+-- Assumes nothing.
+use mathlib.Core.Bool.{Bool, true, cond, _&&_}
+use mathlib.Core.Option.{Option, some, none}
+use Prim.Native.Nat.{ℕ}
+use lib.ListN.{length}
+use lib.Dec.{eqb, leb}
+use Rattle.model.specs.Bytes.{Bytes, put}
+use Rattle.model.specs.Record.{GraphName}
+use Rattle.model.specs.Layout.{recordLength, decode}
+use Rattle.model.specs.Questions.{Given, refuses, gives, decoded}
+use Rattle.model.specs.Message.{errorMessage}
+use Rattle.model.specs.Writing.{toGfaHeaderLines, toGafHeaderLines, relationsTag}
+
+-- 17 where the text is longer than the output
+abbrev pub fitted : Bytes → ℕ → Given Bytes
+fitted t room = cond (leb (length t) room) (gives t) (refuses 17)
+
+-- 15 first, then 16, then 17
+abbrev pub written : (GraphName → Bytes) → Bytes → ℕ → Given Bytes
+written f b room = cond (eqb (length b) recordLength) (decoded (decode b) (λ g. fitted (f g) room)) (refuses 15)
+
+unfoldable pub gfaWritten : Bytes → ℕ → Given Bytes
+gfaWritten = written toGfaHeaderLines
+
+unfoldable pub gafWritten : Bytes → ℕ → Given Bytes
+gafWritten = written toGafHeaderLines
+
+unfoldable pub messageWritten : ℕ → ℕ → Bytes → ℕ → Given Bytes
+messageWritten number line part room = fitted (errorMessage number line part) room
+
+-- how long the text is, and what the output then holds
+abbrev pub sizeOf : Given Bytes → Given ℕ
+sizeOf (refuses n) = refuses n
+sizeOf (gives t) = gives (length t)
+
+abbrev pub outputWith : Given Bytes → Bytes → Bytes
+outputWith (refuses n) out = out
+outputWith (gives t) out = put out 0 t
+
+-- ------------------------------------------------------------------ tags
+
+pub record Tags : Type 0 where
+  pub name : Option Bytes
+  pub subgraph : Option Bytes
+  pub translation : Option Bytes
+
+abbrev pub tagsOf : GraphName → Tags
+tagsOf g = record { name = g .name; subgraph = relationsTag (g .subgraph); translation = relationsTag (g .translation) }
+
+-- an absent value fits every output
+abbrev pub fits : Option Bytes → ℕ → Bool
+fits none room = true
+fits (some t) room = leb (length t) room
+
+-- each value with an output of its own; none is written unless all fit
+unfoldable pub tagsWritten : Bytes → ℕ → ℕ → ℕ → Given Tags
+tagsWritten b n s t =
+    cond (eqb (length b) recordLength)
+    (decoded (decode b) λ g. cond (fits (tagsOf g .name) n && (fits (tagsOf g .subgraph) s && fits (tagsOf g .translation) t)) (gives (tagsOf g)) (refuses 17))
+    (refuses 15)
+
+-- what the output of one value then holds
+abbrev pub putValue : Option Bytes → Bytes → Bytes
+putValue none out = out
+putValue (some t) out = put out 0 t
+
+abbrev pub outputWithTag : (Tags → Option Bytes) → Given Tags → Bytes → Bytes
+outputWithTag value (refuses n) out = out
+outputWithTag value (gives ts) out = putValue (value ts) out
