@@ -8,14 +8,11 @@ use Rattle.model.specs.Bytes.{Bytes, put}
 use Rattle.model.specs.Numbers.{number}
 use Rattle.model.specs.Record.{Pair}
 use Rattle.model.specs.Layout.{nameAt, pairsFrom}
+use Rattle.record.proofs.Access.{pairAt}
 use Rattle.text.proofs.Put.{put-append}
 use Rattle.export.specs.Texts.{pairText, pairTexts, pairsSize}
 use Rattle.export.specs.Places.{PlacesBelow, PairsIn}
 use Rattle.export.proofs.Writes.{Wrote}
-
--- the pair at byte `at`, by the names' places
-abbrev pub pairAt : Bytes → ℕ → Pair
-pairAt b at = record { from = nameAt b (number b at); to = nameAt b (number b (at + 2)) }
 
 pub name-size : (b : Bytes) (i : ℕ) → length (nameAt b i) ≤ length b
 unfolding nameAt

@@ -1,8 +1,8 @@
 // A record as header lines, in either format.
 use crate::answer::Written;
-use crate::pairs::name_at;
 use crate::pairs::pairs_length;
 use crate::pairs::put_pairs;
+use record::name_at;
 use text::copy;
 use text::put_byte;
 use text::read16;

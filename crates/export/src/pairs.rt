@@ -1,24 +1,15 @@
 // The pairs of a record as text: lines of either format, and the relations of a tag.
+use record::name_at;
 use text::copy;
-use text::part;
 use text::put_byte;
 use text::read16;
 ghost use mathlib.Core.Path.{_≡_};
 ghost use Prim.Native.Nat.{_+_, _≤_, _<_};
 ghost use lib.ListN.{length};
 ghost use Rattle.model.specs.Bytes.{put};
-ghost use Rattle.model.specs.Layout.{nameAt, pairsFrom};
+ghost use Rattle.model.specs.Layout.{pairsFrom};
 ghost use Rattle.export.specs.Texts.{pairText, pairTexts, pairsSize};
 ghost use Rattle.export.specs.Places.{PairsIn};
-
-// The name at place i.
-pub fn name_at(b: &[u8], i: usize) -> &[u8]
-    requires { ⌜ (length (now b) ≡ 32768) × (i < 8190) ⌝ }
-    ensures { λ r. ⌜ now r ≡ nameAt (now (b .entry)) i ⌝ }
-{
-    let bodies = 8 + 4 * (read16(b, 0) + read16(b, 4) + read16(b, 6));
-    part(b, bodies + read16(b, 8 + 4 * i), read16(b, 8 + 4 * i + 2))
-}
 
 // How long the text of `count` pairs from byte `pairs` on is, with `beyond` bytes besides the two names of each.
 pub fn pairs_length(b: &[u8], pairs: usize, count: usize, beyond: usize) -> usize

@@ -8,7 +8,8 @@ use Rattle.model.specs.Layout.{pairsFrom}
 use Rattle.text.proofs.Put.{put-none}
 use Rattle.export.specs.Texts.{pairText, pairTexts}
 use Rattle.export.specs.Places.{PairsIn}
-use Rattle.export.proofs.Runs.{pairAt, pair-places, pairs-rest, pair-read, texts-turn, texts-end, write-turn}
+use Rattle.record.proofs.Access.{pairAt}
+use Rattle.export.proofs.Runs.{pair-places, pairs-rest, pair-read, texts-turn, texts-end, write-turn}
 use borrow.Author.Needs.{needs}
 use native.Mathlib.Omega.{arith}
 use Rattle.export.proofs.pairs.put_pairs.Statement.{statement}
