@@ -5,7 +5,7 @@ use lib.ListN.{length}
 use borrow.Author.Tests.{le-leb, lt-leb}
 use Rattle.model.specs.Bytes.{Bytes, put}
 use Rattle.model.specs.Questions.{Given, refuses, gives}
-use Rattle.model.specs.Written.{fitted}
+use Rattle.model.specs.Written.{within}
 use Rattle.export.specs.declared.answer.Written.the-variants.{Refused, Wrote}
 use Rattle.export.specs.Answers.{Answers}
 
@@ -17,8 +17,8 @@ module _ (given : Given Bytes) (out : Bytes) where
   wrote-answers t r o e s p = rw e record { answer = ap gives s; output = p }
 
 module _ (t : Bytes) (room : ℕ) where
-  pub fitted-not : room < length t → fitted t room ≡ refuses 17
-  fitted-not h = rw (lt-leb (length t) room h)
+  pub within-not : room < length t → within room (gives t) ≡ refuses 17
+  within-not h = rw (lt-leb (length t) room h)
 
-  pub fitted-all : length t ≤ room → fitted t room ≡ gives t
-  fitted-all h = rw (le-leb (length t) room h)
+  pub within-all : length t ≤ room → within room (gives t) ≡ gives t
+  within-all h = rw (le-leb (length t) room h)

@@ -1,21 +1,17 @@
 -- What the test of a buffer tells the writers: the own place and the pairs' places are places of names, and the record is what it shows.
 use mathlib.Core.Path.{_≡_, refl, sym, ap, _∙_}
 use mathlib.Core.Logic.{_≢_}
-use mathlib.Core.Bool.{Bool, true, false, cond}
-use mathlib.Core.Option.{Option, some, none}
+use mathlib.Core.Option.{some, none}
 use Prim.Native.Nat.{ℕ, zero, suc, _+_, _-_, _*_, _<_}
 use native.Mathlib.Omega.{arith}
 use native.Mathlib.Nat.{add-zero}
-use lib.ListN.{length}
-use lib.Dec.{eqb}
-use borrow.Author.Tests.{eq-eqb}
 use Rattle.model.specs.declared.Kind.the-variants.{Subgraph, Translation}
 use Rattle.model.specs.Bytes.{Bytes}
 use Rattle.model.specs.Numbers.{number}
 use Rattle.model.specs.Record.{GraphName}
-use Rattle.model.specs.Layout.{nameAt, ownAt, shown, decode, recordLength}
-use Rattle.model.specs.Questions.{refuses, isSome, faultOf, decoded}
-use Rattle.model.specs.Written.{fitted, written}
+use Rattle.model.specs.Layout.{nameAt, ownAt, shown, decode}
+use Rattle.model.specs.Questions.{gives, faultOf, asked}
+use Rattle.record.proofs.Parts.{asked-gives}
 use Rattle.record.proofs.Laws.{decode-held, decode-shown}
 use Rattle.record.proofs.Access.{pair-within}
 use Rattle.export.specs.Places.{PlacesBelow, RecordIn}
@@ -63,33 +59,9 @@ record-in b g e =
       };
     }
 
-no-fault : (b : Bytes) → faultOf b ≡ 0 → (g : GraphName) × (decode b ≡ some g)
-unfolding faultOf
-no-fault b e = go (eqb (length b) recordLength) (decode b) refl e
-  where
-    go : (t : Bool) (o : Option GraphName) → decode b ≡ o → _≡_ {A = ℕ} (cond t (cond (isSome o) 0 16) 15) 0 → (g : GraphName) × (decode b ≡ some g)
-    go true none d z = absurd (omega arith)
-    go true (some g) d z = (g, d)
-    go false none d z = absurd (omega arith)
-    go false (some g) d z = absurd (omega arith)
-
 pub opened : (b : Bytes) → faultOf b ≡ 0 → RecordIn b
-opened b e = let r = no-fault b e in record-in b (r .0) (r .1)
+opened b z = let r = asked-gives b (λ g. g) z in record-in b (r .0) (r .1)
 
-module _ (f : GraphName → Bytes) (b : Bytes) (room : ℕ) where
-  -- a fault is the refusal, and without one what the buffer shows is written
-  pub written-fault : faultOf b ≢ 0 → written f b room ≡ refuses (faultOf b)
-  unfolding faultOf
-  written-fault n = go (eqb (length b) recordLength) (decode b) n
-    where
-      go : (t : Bool) (o : Option GraphName) → _≢_ {A = ℕ} (cond t (cond (isSome o) 0 16) 15) 0
-          → cond t (decoded o (λ g. fitted (f g) room)) (refuses 15) ≡ refuses (cond t (cond (isSome o) 0 16) 15)
-      go true none m = refl
-      go true (some g) m = absurd (m refl)
-      go false none m = refl
-      go false (some g) m = refl
-
-  pub written-shown : faultOf b ≡ 0 → written f b room ≡ fitted (f (shown b)) room
-  written-shown e =
-      let r = no-fault b e in
-      rw (eq-eqb (length b) recordLength (decode-held b (r .0) (r .1) .long), r .1, decode-shown b (r .0) (r .1))
+-- what is asked of a record is asked of what it shows
+pub asked-shown : {A : Type 0} (b : Bytes) (f : GraphName → A) → faultOf b ≡ 0 → asked b f ≡ gives (f (shown b))
+asked-shown b f z = let r = asked-gives b f z in r .2 ∙ ap (λ (g : GraphName). gives (f g)) (sym (decode-shown b (r .0) (r .1)))

@@ -4,30 +4,26 @@ use mathlib.Core.Bool.{Bool, true, cond, _&&_}
 use mathlib.Core.Option.{Option, some, none}
 use Prim.Native.Nat.{ℕ}
 use lib.ListN.{length}
-use lib.Dec.{eqb, leb}
+use lib.Dec.{leb}
 use Rattle.model.specs.Bytes.{Bytes, put}
 use Rattle.model.specs.Record.{GraphName}
-use Rattle.model.specs.Layout.{recordLength, decode}
-use Rattle.model.specs.Questions.{Given, refuses, gives, decoded}
+use Rattle.model.specs.Questions.{Given, refuses, gives, asked}
 use Rattle.model.specs.Message.{errorMessage}
 use Rattle.model.specs.Writing.{toGfaHeaderLines, toGafHeaderLines, relationsTag}
 
 -- 17 where the text is longer than the output
-abbrev pub fitted : Bytes → ℕ → Given Bytes
-fitted t room = cond (leb (length t) room) (gives t) (refuses 17)
-
--- 15 first, then 16, then 17
-abbrev pub written : (GraphName → Bytes) → Bytes → ℕ → Given Bytes
-written f b room = cond (eqb (length b) recordLength) (decoded (decode b) (λ g. fitted (f g) room)) (refuses 15)
+abbrev pub within : ℕ → Given Bytes → Given Bytes
+within room (refuses n) = refuses n
+within room (gives t) = cond (leb (length t) room) (gives t) (refuses 17)
 
 unfoldable pub gfaWritten : Bytes → ℕ → Given Bytes
-gfaWritten = written toGfaHeaderLines
+gfaWritten b room = within room (asked b toGfaHeaderLines)
 
 unfoldable pub gafWritten : Bytes → ℕ → Given Bytes
-gafWritten = written toGafHeaderLines
+gafWritten b room = within room (asked b toGafHeaderLines)
 
 unfoldable pub messageWritten : ℕ → ℕ → Bytes → ℕ → Given Bytes
-messageWritten number line part room = fitted (errorMessage number line part) room
+messageWritten number line part room = within room (gives (errorMessage number line part))
 
 -- how long the text is, and what the output then holds
 abbrev pub sizeOf : Given Bytes → Given ℕ
@@ -54,11 +50,12 @@ fits none room = true
 fits (some t) room = leb (length t) room
 
 -- each value with an output of its own; none is written unless all fit
+abbrev pub allWithin : ℕ → ℕ → ℕ → Given Tags → Given Tags
+allWithin n s t (refuses k) = refuses k
+allWithin n s t (gives v) = cond (fits (v .name) n && (fits (v .subgraph) s && fits (v .translation) t)) (gives v) (refuses 17)
+
 unfoldable pub tagsWritten : Bytes → ℕ → ℕ → ℕ → Given Tags
-tagsWritten b n s t =
-    cond (eqb (length b) recordLength)
-    (decoded (decode b) λ g. cond (fits (tagsOf g .name) n && (fits (tagsOf g .subgraph) s && fits (tagsOf g .translation) t)) (gives (tagsOf g)) (refuses 17))
-    (refuses 15)
+tagsWritten b n s t = allWithin n s t (asked b tagsOf)
 
 -- what the output of one value then holds
 abbrev pub putValue : Option Bytes → Bytes → Bytes

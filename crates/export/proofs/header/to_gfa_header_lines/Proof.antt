@@ -3,11 +3,11 @@ use mathlib.Core.Path.{sym, ap, _∙_}
 use lib.ListN.{length}
 use Rattle.model.specs.Writing.{toGfaHeaderLines}
 use Rattle.model.specs.Layout.{shown}
-use Rattle.model.specs.Questions.{refuses}
-use Rattle.model.specs.Written.{gfaWritten}
+use Rattle.model.specs.Written.{gfaWritten, within}
+use Rattle.record.proofs.Answers.{refused-asked}
 use Rattle.export.proofs.Lengths.{length-gfa}
-use Rattle.export.proofs.Opened.{opened, written-fault, written-shown}
-use Rattle.export.proofs.Answering.{refused-answers, wrote-answers, fitted-not, fitted-all}
+use Rattle.export.proofs.Opened.{opened, asked-shown}
+use Rattle.export.proofs.Answering.{refused-answers, wrote-answers, within-not, within-all}
 use native.Mathlib.Omega.{arith}
 use borrow.Author.Needs.{needs}
 use Rattle.export.proofs.header.to_gfa_header_lines.Statement.{statement}
@@ -22,7 +22,7 @@ returns c =
     let k = c .before in
     let a = k .before .before .before .args in
     refused-answers _ (a .out .now) (k .fault .result)
-    (written-fault toGfaHeaderLines (a .b .now) (length (a .out .now)) (λ e. c .if1 .taken (k .fault .ensures ∙ e)) ∙ ap refuses (sym (k .fault .ensures)))
+    (ap (within (length (a .out .now))) (sym (refused-asked (a .b .now) toGfaHeaderLines (k .fault .result) (k .fault .ensures) (c .if1 .taken))))
 
 lines-length-requires : tie.Need-lines-length-requires
 lines-length-requires c κs =
@@ -36,8 +36,8 @@ returns-2 c =
     let k = m .before .before in
     let a = k .before .before .before .args in
     refused-answers _ (a .out .now) 17
-    (written-shown toGfaHeaderLines (a .b .now) (length (a .out .now)) (sym (k .fault .ensures) ∙ m .before .if1 .left)
-    ∙ fitted-not (toGfaHeaderLines (shown (a .b .now))) (length (a .out .now)) (omega (arith, m .lines-length .ensures, length-gfa (shown (a .b .now)))))
+    (ap (within (length (a .out .now))) (asked-shown (a .b .now) toGfaHeaderLines (sym (k .fault .ensures) ∙ m .before .if1 .left))
+    ∙ within-not (toGfaHeaderLines (shown (a .b .now))) (length (a .out .now)) (omega (arith, m .lines-length .ensures, length-gfa (shown (a .b .now)))))
 
 slice-aggregate-put-lines : tie.Need-slice-aggregate-put-lines
 slice-aggregate-put-lines c = search needs
@@ -68,8 +68,8 @@ returns-3 c =
     let a = k .before .before .before .args in
     let t = toGfaHeaderLines (shown (a .b .now)) in
     wrote-answers _ (a .out .now) t (w .put-lines .result) (w .put-lines .last .0)
-    (written-shown toGfaHeaderLines (a .b .now) (length (a .out .now)) (sym (k .fault .ensures) ∙ m .before .if1 .left)
-    ∙ fitted-all t (length (a .out .now)) (omega (arith, m .lines-length .ensures, length-gfa (shown (a .b .now)))))
+    (ap (within (length (a .out .now))) (asked-shown (a .b .now) toGfaHeaderLines (sym (k .fault .ensures) ∙ m .before .if1 .left))
+    ∙ within-all t (length (a .out .now)) (omega (arith, m .lines-length .ensures, length-gfa (shown (a .b .now)))))
     (w .put-lines .ensures .0) (w .put-lines .ensures .1)
 
 pub to-gfa-header-lines-spec : {M : Type 1} → statement M

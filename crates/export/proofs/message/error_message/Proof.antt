@@ -3,7 +3,7 @@ use mathlib.Core.Path.{_∙_}
 use native.Mathlib.Nat.{zero-add}
 use Rattle.model.specs.Message.{errorMessage}
 use Rattle.model.specs.Written.{messageWritten}
-use Rattle.export.proofs.Answering.{refused-answers, wrote-answers, fitted-not, fitted-all}
+use Rattle.export.proofs.Answering.{refused-answers, wrote-answers, within-not, within-all}
 use native.Mathlib.Omega.{arith}
 use borrow.Author.Needs.{needs}
 use Rattle.export.proofs.message.error_message.Statement.{statement}
@@ -16,7 +16,7 @@ returns : tie.Need-returns
 unfolding messageWritten
 returns c =
     let a = c .before .before .before .before .args in
-    refused-answers _ (a .out .now) 17 (fitted-not (errorMessage (a .number) (a .line) (a .part .now)) _ (omega (arith, c .before .message-length .ensures)))
+    refused-answers _ (a .out .now) 17 (within-not (errorMessage (a .number) (a .line) (a .part .now)) _ (omega (arith, c .before .message-length .ensures)))
 
 put-message-requires : tie.Need-put-message-requires
 put-message-requires c κs = omega (arith, c .before .before .message-length .ensures)
@@ -31,7 +31,7 @@ returns-2 c =
     let a = m .before .before .before .before .before .before .args in
     let t = errorMessage (a .number) (a .line) (a .part .now) in
     wrote-answers _ (a .out .now) t (m .put-message .result) (m .put-message .last .0)
-    (fitted-all t _ (omega (arith, m .before .before .before .message-length .ensures))) (m .put-message .ensures .0 ∙ zero-add _) (m .put-message .ensures .1)
+    (within-all t _ (omega (arith, m .before .before .before .message-length .ensures))) (m .put-message .ensures .0 ∙ zero-add _) (m .put-message .ensures .1)
 
 pub error-message-spec : {M : Type 1} → statement M
 error-message-spec =
