@@ -9,3 +9,4 @@ pub mod Runs
 pub mod Wording
 pub mod Opened
 pub mod Answering
+pub mod Values

@@ -29,7 +29,7 @@ pair-read b f t i j at e d e′ d′ k = record { from = name-read b f i (number
 -- ------------------------------------------------------------------ the first pair and the rest
 
 module _ (b : Bytes) (at : ℕ) where
-  first-pair : (left : ℕ) → 0 < left → pairsFrom b at left ≡ pairAt b at ∷ pairsFrom b (at + 4) (left - 1)
+  pub first-pair : (left : ℕ) → 0 < left → pairsFrom b at left ≡ pairAt b at ∷ pairsFrom b (at + 4) (left - 1)
   unfolding pairsFrom
   first-pair zero h = absurd (omega arith)
   first-pair (suc k) h = let e : suc k - 1 ≡ k = omega arith in rw e
@@ -72,7 +72,7 @@ module _ (b : Bytes) (at left : ℕ) (h : 0 < left) where
 
 -- at the end of a run
 module _ (b : Bytes) (at left : ℕ) (h : left ≤ 0) where
-  no-pairs : pairsFrom b at left ≡ []
+  pub no-pairs : pairsFrom b at left ≡ []
   unfolding pairsFrom
   no-pairs = let e : left ≡ 0 = omega arith in rw e
 

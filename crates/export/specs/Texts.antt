@@ -33,3 +33,8 @@ headerLines name subgraph translation between g =
 -- their size, with so many bytes beyond the own name and beyond the two names of a pair
 abbrev pub headerSize : ℕ → ℕ → GraphName → ℕ
 headerSize name pair g = nameSize name (g .name) + pairsSize pair (g .subgraph) + pairsSize pair (g .translation)
+
+-- the bytes of a tag's value; an absent one has none
+abbrev pub valueSize : Option Bytes → ℕ
+valueSize none = 0
+valueSize (some t) = length t

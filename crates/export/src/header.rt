@@ -19,7 +19,7 @@ ghost use Rattle.export.specs.Places.{RecordIn};
 ghost use Rattle.export.specs.Answers.{Answers};
 
 // How long the line of the own name is, with `beyond` bytes besides it; 0 where there is no own name.
-fn own_length(b: &[u8], beyond: usize) -> usize
+pub fn own_length(b: &[u8], beyond: usize) -> usize
     requires { ⌜ RecordIn (now b) × (beyond ≤ 16) ⌝ }
     ensures { λ r. ⌜ (r ≡ nameSize beyond (ownAt (now (b .entry)) (number (now (b .entry)) 2))) × (r < 65536) ⌝ }
 {

@@ -7,8 +7,11 @@ mod answer;
 mod header;
 mod message;
 mod pairs;
+mod tags;
 
+pub use answer::Tag;
 pub use answer::Written;
+pub use answer::WrittenTags;
 pub use header::to_gaf_header_lines;
 pub use header::to_gfa_header_lines;
 pub use message::error_message;

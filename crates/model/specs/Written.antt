@@ -7,7 +7,7 @@ use lib.ListN.{length}
 use lib.Dec.{leb}
 use Rattle.model.specs.Bytes.{Bytes, put}
 use Rattle.model.specs.Record.{GraphName}
-use Rattle.model.specs.Questions.{Given, refuses, gives, asked}
+use Rattle.model.specs.Questions.{Given, refuses, gives, asked, mapped}
 use Rattle.model.specs.Message.{errorMessage}
 use Rattle.model.specs.Writing.{toGfaHeaderLines, toGafHeaderLines, relationsTag}
 
@@ -57,11 +57,20 @@ allWithin n s t (gives v) = cond (fits (v .name) n && (fits (v .subgraph) s && f
 unfoldable pub tagsWritten : Bytes → ℕ → ℕ → ℕ → Given Tags
 tagsWritten b n s t = allWithin n s t (asked b tagsOf)
 
--- what the output of one value then holds
+-- how long each value is, and what its output then holds
+pub record TagSizes : Type 0 where
+  pub name : Option ℕ
+  pub subgraph : Option ℕ
+  pub translation : Option ℕ
+
+abbrev pub tagSizes : Given Tags → Given TagSizes
+tagSizes (refuses n) = refuses n
+tagSizes (gives v) = gives (record { name = mapped length (v .name); subgraph = mapped length (v .subgraph); translation = mapped length (v .translation) })
+
 abbrev pub putValue : Option Bytes → Bytes → Bytes
 putValue none out = out
 putValue (some t) out = put out 0 t
 
 abbrev pub outputWithTag : (Tags → Option Bytes) → Given Tags → Bytes → Bytes
 outputWithTag value (refuses n) out = out
-outputWithTag value (gives ts) out = putValue (value ts) out
+outputWithTag value (gives v) out = putValue (value v) out
