@@ -5,7 +5,9 @@ pub mod Record
 pub mod Layout
 pub mod Questions
 pub mod Reading
+pub mod Message
 pub mod Writing
+pub mod Written
 pub mod Path
 pub mod Describe
 pub mod Strict

@@ -1,0 +1,12 @@
+pub mod Parts
+pub mod Sizes
+pub mod Adding
+pub mod Lines
+pub mod ReadBack
+pub mod Lengths
+pub mod Writes
+pub mod Runs
+pub mod Wording
+pub mod Opened
+pub mod Answering
+pub mod Values

@@ -1,0 +1,119 @@
+-- Three texts, one behind the other: the line of the own name and both runs of pairs.
+use mathlib.Core.Path.{_∙_}
+use native.Mathlib.Nat.{zero-add}
+use lib.ListN.{length-append}
+use mathlib.Core.List.{[], _∷_, _++_}
+use Rattle.model.specs.Layout.{ownAt, pairsFrom}
+use Rattle.model.specs.Numbers.{number}
+use Rattle.model.specs.Writing.{nameLine}
+use Rattle.export.specs.Texts.{pairTexts}
+use Rattle.record.specs.Test.{subgraphAt, translationAt}
+use Rattle.export.proofs.Lengths.{header-parts, header-length}
+use Rattle.export.proofs.Writes.{wrote-both}
+use native.Mathlib.Omega.{arith}
+use borrow.Author.Needs.{needs}
+use Rattle.export.proofs.header.put_lines.Statement.{statement}
+use Rattle.export.proofs.header.put_lines.Tie as tie
+
+read16-requires : tie.Need-read16-requires
+read16-requires c κs = search needs
+
+mul-first : tie.Need-mul-first
+mul-first c = search needs
+
+add-first : tie.Need-add-first
+add-first c = search needs
+
+read16-requires-2 : tie.Need-read16-requires-2
+read16-requires-2 c κs = search needs
+
+mul-second : tie.Need-mul-second
+mul-second c = search needs
+
+add-second : tie.Need-add-second
+add-second c = search needs
+
+read16-requires-3 : tie.Need-read16-requires-3
+read16-requires-3 c κs = search needs
+
+put-own-requires : tie.Need-put-own-requires
+put-own-requires c κs =
+    let s = c .before .before .before .before .before .before .before .before .before in
+    let a = s .args in
+    let size = header-length (a .b .now) (a .name .now) (a .subgraph .now) (a .translation .now) (a .between) in
+    (s .pre .0, omega (arith, s .pre .1))
+
+slice-aggregate-put-pairs : tie.Need-slice-aggregate-put-pairs
+slice-aggregate-put-pairs c = search needs
+
+put-pairs-requires : tie.Need-put-pairs-requires
+put-pairs-requires c κs =
+    let r4 = c .before .before .before .before .before .before .before in
+    let r0 = r4 .before in
+    let s = r0 .before .before .before .before .before .before in
+    let a = s .args in
+    let size = header-length (a .b .now) (a .name .now) (a .subgraph .now) (a .translation .now) (a .between) in
+    rw (r0 .read16 .ensures .0, r4 .read162 .ensures .0) (s .pre .0 .subgraph, omega (arith, s .pre .1, c .before .before .before .before .put-own .ensures .0))
+
+slice-aggregate-put-pairs-2 : tie.Need-slice-aggregate-put-pairs-2
+slice-aggregate-put-pairs-2 c = search needs
+
+put-pairs-requires-2 : tie.Need-put-pairs-requires-2
+put-pairs-requires-2 c κs =
+    let k = c .before .before .before .before in
+    let o = k .before .before .before .before .before in
+    let r6 = o .before .before in
+    let r4 = r6 .before in
+    let r0 = r4 .before in
+    let s = r0 .before .before .before .before .before .before in
+    let a = s .args in
+    let size = header-length (a .b .now) (a .name .now) (a .subgraph .now) (a .translation .now) (a .between) in
+    let front = rw (r0 .read16 .ensures .0, r4 .read162 .ensures .0) at (k .put-pairs .ensures .0) in
+    rw (r0 .read16 .ensures .0, r4 .read162 .ensures .0, r6 .read163 .ensures .0)
+    (s .pre .0 .translation, omega (arith, s .pre .1, o .put-own .ensures .0, o .put-own .kept .0, k .put-pairs .kept .0))
+
+same-length : tie.Need-same-length
+same-length c = search needs
+
+returns : tie.Need-returns
+returns c =
+    let l = c .before .before in
+    let k = l .before .before .before .before .before in
+    let o = k .before .before .before .before .before in
+    let r6 = o .before .before in
+    let r4 = r6 .before in
+    let r0 = r4 .before in
+    let s = r0 .before .before .before .before .before .before in
+    let a = s .args in
+    let whole = header-parts (a .b .now) (a .name .now) (a .subgraph .now) (a .translation .now) (a .between) in
+    let size = header-length (a .b .now) (a .name .now) (a .subgraph .now) (a .translation .now) (a .between) in
+    let x = nameLine (a .name .now) (ownAt (a .b .now) (number (a .b .now) 2)) in
+    let y = pairTexts (a .subgraph .now) (a .between) (10 ∷ []) (pairsFrom (a .b .now) (subgraphAt (a .b .now)) (number (a .b .now) 4)) in
+    let z = pairTexts (a .translation .now) (a .between) (10 ∷ []) (pairsFrom (a .b .now) (translationAt (a .b .now)) (number (a .b .now) 6)) in
+    let front =
+    wrote-both (a .out .now) 0 x y (o .put-own .result) (o .put-own .last .0) (k .put-pairs .result) (k .put-pairs .last .0)
+    (omega (arith, s .pre .1)) (o .put-own .ensures) (rw (r0 .read16 .ensures .0, r4 .read162 .ensures .0) at (k .put-pairs .ensures)) in
+    let all =
+    wrote-both (a .out .now) 0 (x ++ y) z (k .put-pairs .result) (k .put-pairs .last .0) (l .put-pairs2 .result) (l .put-pairs2 .last .0)
+    (rw (length-append x y) (omega (arith, s .pre .1))) front
+    (rw (r0 .read16 .ensures .0, r4 .read162 .ensures .0, r6 .read163 .ensures .0) at (l .put-pairs2 .ensures)) in
+    rw whole (all .0 ∙ zero-add _, all .1)
+
+pub put-lines-spec : {M : Type 1} → statement M
+put-lines-spec =
+    tie.close
+    (tie.spec
+    read16-requires
+    mul-first
+    add-first
+    read16-requires-2
+    mul-second
+    add-second
+    read16-requires-3
+    put-own-requires
+    slice-aggregate-put-pairs
+    put-pairs-requires
+    slice-aggregate-put-pairs-2
+    put-pairs-requires-2
+    same-length
+    returns)

@@ -1,0 +1,4 @@
+pub mod Texts
+pub mod Places
+pub mod Words
+pub mod Answers

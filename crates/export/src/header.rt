@@ -1,0 +1,109 @@
+// A record as header lines, in either format.
+use crate::answer::Written;
+use crate::pairs::pairs_length;
+use crate::pairs::put_pairs;
+use record::name_at;
+use text::copy;
+use text::put_byte;
+use text::read16;
+ghost use mathlib.Core.Path.{_≡_};
+ghost use Prim.Native.Nat.{_+_, _≤_, _<_};
+ghost use lib.ListN.{length};
+ghost use Rattle.model.specs.Bytes.{put};
+ghost use Rattle.model.specs.Numbers.{number};
+ghost use Rattle.model.specs.Layout.{ownAt, shown};
+ghost use Rattle.model.specs.Writing.{nameLine};
+ghost use Rattle.model.specs.Written.{gfaWritten, gafWritten};
+ghost use Rattle.export.specs.Texts.{nameSize, headerLines, headerSize};
+ghost use Rattle.export.specs.Places.{RecordIn};
+ghost use Rattle.export.specs.Answers.{Answers};
+
+// How long the line of the own name is, with `beyond` bytes besides it; 0 where there is no own name.
+pub fn own_length(b: &[u8], beyond: usize) -> usize
+    requires { ⌜ RecordIn (now b) × (beyond ≤ 16) ⌝ }
+    ensures { λ r. ⌜ (r ≡ nameSize beyond (ownAt (now (b .entry)) (number (now (b .entry)) 2))) × (r < 65536) ⌝ }
+{
+    let own = read16(b, 2);
+    if own == 0 {
+        return 0;
+    }
+    let name = name_at(b, own - 1);
+    beyond + name.len()
+}
+
+// Writes the line of the own name, if there is one, with `before` in front of it.
+fn put_own(out: &mut [u8], at: usize, b: &[u8], before: &[u8]) -> usize
+    requires { ⌜ RecordIn (now b) × (at + length (nameLine (now before) (ownAt (now b) (number (now b) 2))) ≤ length (now out)) ⌝ }
+    ensures { λ r. ⌜ (r ≡ at + length (nameLine (now (before .entry)) (ownAt (now (b .entry)) (number (now (b .entry)) 2))))
+        × (now (out .exit) ≡ put (now (out .entry)) at (nameLine (now (before .entry)) (ownAt (now (b .entry)) (number (now (b .entry)) 2)))) ⌝ }
+{
+    let own = read16(b, 2);
+    if own == 0 {
+        return at;
+    }
+    let p = copy(out, at, before);
+    let q = copy(out, p, name_at(b, own - 1));
+    put_byte(out, q, 10)
+}
+
+// How long all lines are, with so many bytes beyond the own name and beyond the two names of a pair.
+fn lines_length(b: &[u8], name: usize, pair: usize) -> usize
+    requires { ⌜ RecordIn (now b) × (name ≤ 16) × (pair ≤ 16) ⌝ }
+    ensures { λ r. ⌜ r ≡ headerSize name pair (shown (now (b .entry))) ⌝ }
+{
+    let first = 8 + 4 * read16(b, 0);
+    let s = read16(b, 4);
+    let second = first + 4 * s;
+    let t = read16(b, 6);
+    own_length(b, name) + pairs_length(b, first, s, pair) + pairs_length(b, second, t, pair)
+}
+
+// Writes all lines, by what stands before the own name and before a pair of each kind, and between two names.
+fn put_lines(
+    out: &mut [u8],
+    b: &[u8],
+    name: &[u8],
+    subgraph: &[u8],
+    translation: &[u8],
+    between: u8,
+) -> usize
+    requires { ⌜ RecordIn (now b) × (length (headerLines (now name) (now subgraph) (now translation) between (shown (now b))) ≤ length (now out)) ⌝ }
+    ensures { λ r. ⌜ (r ≡ length (headerLines (now (name .entry)) (now (subgraph .entry)) (now (translation .entry)) between (shown (now (b .entry)))))
+        × (now (out .exit) ≡ put (now (out .entry)) 0 (headerLines (now (name .entry)) (now (subgraph .entry)) (now (translation .entry)) between (shown (now (b .entry))))) ⌝ }
+{
+    let first = 8 + 4 * read16(b, 0);
+    let s = read16(b, 4);
+    let second = first + 4 * s;
+    let t = read16(b, 6);
+    let p = put_own(out, 0, b, name);
+    let q = put_pairs(out, p, b, first, s, subgraph, between, b"\n");
+    put_pairs(out, q, b, second, t, translation, between, b"\n")
+}
+
+// Writes a record as GFA header lines.
+pub fn to_gfa_header_lines(b: &[u8], out: &mut [u8]) -> Written
+    ensures { λ r. ⌜ Answers (gfaWritten (now (b .entry)) (length (now (out .entry)))) (now (out .entry)) r (now (out .exit)) ⌝ }
+{
+    let wrong = record::fault(b);
+    if wrong != 0 {
+        return Written::Refused(wrong);
+    }
+    if out.len() < lines_length(b, 8, 9) {
+        return Written::Refused(17);
+    }
+    Written::Wrote(put_lines(out, b, b"H\tNM:Z:", b"H\tSG:Z:", b"H\tTL:Z:", 44))
+}
+
+// Writes a record as GAF header lines.
+pub fn to_gaf_header_lines(b: &[u8], out: &mut [u8]) -> Written
+    ensures { λ r. ⌜ Answers (gafWritten (now (b .entry)) (length (now (out .entry)))) (now (out .entry)) r (now (out .exit)) ⌝ }
+{
+    let wrong = record::fault(b);
+    if wrong != 0 {
+        return Written::Refused(wrong);
+    }
+    if out.len() < lines_length(b, 5, 6) {
+        return Written::Refused(17);
+    }
+    Written::Wrote(put_lines(out, b, b"@RN\t", b"@SG\t", b"@TL\t", 9))
+}
