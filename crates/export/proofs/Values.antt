@@ -1,17 +1,22 @@
 -- The value of a tag for a run of pairs in a buffer: absent, or the first pair and the further ones behind it.
-use mathlib.Core.Path.{_≡_, refl, ap, _∙_}
-use mathlib.Core.List.{[], _∷_, _++_, append-assoc, append-nil}
+use mathlib.Core.Path.{_≡_, refl}
+use mathlib.Core.List.{[], _∷_, _++_, append-nil}
 use mathlib.Core.Option.{Option, some, none}
 use Prim.Native.Nat.{ℕ, _+_, _-_, _<_, _≤_}
 use native.Mathlib.Omega.{arith}
+use native.Mathlib.Nat.{zero-add}
 use lib.ListN.{length, length-append}
 use Rattle.model.specs.Bytes.{Bytes}
 use Rattle.model.specs.Layout.{pairsFrom}
 use Rattle.model.specs.Writing.{relationsTag}
 use Rattle.record.proofs.Access.{pairAt}
-use Rattle.export.specs.Texts.{pairText, pairTexts, pairsSize, valueSize}
+use Rattle.export.specs.Texts.{pairText, pairTexts, nameSize, pairsSize, valueSize}
 use Rattle.export.proofs.Lengths.{relations-texts, length-texts}
 use Rattle.export.proofs.Runs.{first-pair, no-pairs, size-turn}
+
+pub size-alone : (o : Option Bytes) → nameSize 0 o ≡ valueSize o
+size-alone none = refl
+size-alone (some t) = zero-add (length t)
 
 module _ (b : Bytes) (at count : ℕ) where
   pub value-absent : count ≤ 0 → relationsTag (pairsFrom b at count) ≡ none

@@ -15,3 +15,4 @@ pub use answer::WrittenTags;
 pub use header::to_gaf_header_lines;
 pub use header::to_gfa_header_lines;
 pub use message::error_message;
+pub use tags::set_tags;

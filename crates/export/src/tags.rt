@@ -11,7 +11,6 @@ use record::pair_count;
 use record::table_at;
 use text::copy;
 use text::read16;
-
 ghost use mathlib.Core.Path.{_≡_};
 ghost use Prim.Native.Nat.{_≤_, _<_};
 ghost use lib.ListN.{length};
@@ -62,7 +61,12 @@ fn put_name(out: &mut [u8], b: &[u8]) -> Tag
 }
 
 // Writes the values of the three tags, each to the front of its own output, and none unless all fit.
-pub fn set_tags(b: &[u8], name: &mut [u8], subgraph: &mut [u8], translation: &mut [u8]) -> WrittenTags
+pub fn set_tags(
+    b: &[u8],
+    name: &mut [u8],
+    subgraph: &mut [u8],
+    translation: &mut [u8],
+) -> WrittenTags
     ensures { λ r. ⌜ AllAnswers
         (tagsWritten (now (b .entry)) (length (now (name .entry))) (length (now (subgraph .entry))) (length (now (translation .entry))))
         (now (name .entry)) (now (subgraph .entry)) (now (translation .entry)) r (now (name .exit)) (now (subgraph .exit)) (now (translation .exit)) ⌝ }

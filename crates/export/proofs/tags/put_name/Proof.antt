@@ -1,5 +1,5 @@
 -- The own place is one more than the place of the name, and 0 where there is none.
-use mathlib.Core.Path.{_≡_, sym, ap, _∙_}
+use mathlib.Core.Path.{sym, ap, _∙_}
 use lib.ListN.{length}
 use mathlib.Core.Option.{Option, some}
 use Rattle.model.specs.Bytes.{Bytes}

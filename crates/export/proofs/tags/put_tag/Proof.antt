@@ -96,7 +96,7 @@ returns-2 c =
     let t = pairText [] 44 [] (pairAt (a .b .now) (a .pairs)) in
     let u = pairTexts (59 ∷ []) 44 [] (pairsFrom (a .b .now) (a .pairs + 4) (a .count - 1)) in
     let first =
-        subst (λ (x : Pair). Wrote (a .out .now) 0 (pairText [] 44 [] x) (k .put-pair .result) (k .put-pair .last .0)) (pair (k .before)) (k .put-pair .ensures) in
+    subst (λ (x : Pair). Wrote (a .out .now) 0 (pairText [] 44 [] x) (k .put-pair .result) (k .put-pair .last .0)) (pair (k .before)) (k .put-pair .ensures) in
     size-answers _ (a .out .now) _ (l .put-pairs .result) (l .put-pairs .last .0) (value-present (a .b .now) (a .pairs) (a .count) h)
     (wrote-both (a .out .now) 0 t u (k .put-pair .result) (k .put-pair .last .0) (l .put-pairs .result) (l .put-pairs .last .0)
     (omega (arith, s .pre .1)) first (l .put-pairs .ensures))

@@ -1,91 +1,150 @@
+-- A fault is the refusal; else each value is measured, and all are written if all fit.
+use mathlib.Core.Path.{_≡_, sym, ap, _∙_}
+use lib.ListN.{length}
+use Rattle.model.specs.Numbers.{number}
+use Rattle.model.specs.Layout.{ownAt, pairsFrom, shown}
+use Rattle.model.specs.Writing.{relationsTag}
+use Rattle.model.specs.Questions.{faultOf}
+use Rattle.model.specs.Written.{tagsOf, allWithin, tagsWritten}
+use Rattle.record.specs.Test.{subgraphAt, translationAt}
+use Rattle.record.proofs.Answers.{refused-asked}
+use Rattle.export.specs.Texts.{valueSize}
+use Rattle.export.proofs.Opened.{opened, asked-shown}
+use Rattle.export.proofs.Values.{size-alone}
+use Rattle.export.proofs.Answering.{refused-tags, wrote-tags, name-not, subgraph-not, translation-not, all-within}
+use native.Mathlib.Omega.{arith}
 use borrow.Author.Needs.{needs}
 use Rattle.export.proofs.tags.set_tags.Statement.{statement}
 use Rattle.export.proofs.tags.set_tags.Tie as tie
-use Rattle.export.proofs.tags.set_tags.Reads as reads
-use Rattle.export.proofs.tags.set_tags.Lts as lts
-use Rattle.export.proofs.header.own_length.Reads as own-length-reads
-use Rattle.export.proofs.tags.put_name.Reads as put-name-reads
-use Rattle.export.proofs.tags.put_tag.Reads as put-tag-reads
-use Rattle.export.proofs.tags.tag_length.Reads as tag-length-reads
-use Rattle.record.proofs.pair_count.Reads as pair-count-reads
-use Rattle.record.proofs.table_at.Reads as table-at-reads
-use Rattle.record.proofs.fault.Reads as fault-reads
 
--- src/tags.rt:70:9
+abbrev start : tie.Else1 → tie.Start
+start c = c .before .before .before .before .before .before
+
+clear : (c : tie.Else1) → faultOf (start c .args .b .now) ≡ 0
+clear c = sym (c .before .fault .ensures) ∙ c .if1 .left
+
+-- the size of each value, as it was measured
+name-size : (c : tie.After-own-length) → c .own-length .result ≡ valueSize (ownAt (start (c .before .before .before .before .before) .args .b .now) (number (start (c .before .before .before .before .before) .args .b .now) 2))
+name-size c = c .own-length .ensures .0 ∙ size-alone (ownAt (start (c .before .before .before .before .before) .args .b .now) (number (start (c .before .before .before .before .before) .args .b .now) 2))
+
+subgraph-size : (c : tie.After-tag-length)
+    → c .tag-length .result ≡ valueSize (relationsTag (pairsFrom (start (c .before .before .before .before .before .before .before) .args .b .now) (subgraphAt (start (c .before .before .before .before .before .before .before) .args .b .now)) (number (start (c .before .before .before .before .before .before .before) .args .b .now) 4)))
+subgraph-size c = rw (c .before .before .before .before .before .before .table-at .ensures .0, c .before .before .before .before .before .pair-count .ensures .0) at (c .tag-length .ensures)
+
+translation-size : (c : tie.After-tag-length2)
+    → c .tag-length2 .result ≡ valueSize (relationsTag (pairsFrom (start (c .before .before .before .before .before .before .before .before .before) .args .b .now) (translationAt (start (c .before .before .before .before .before .before .before .before .before) .args .b .now)) (number (start (c .before .before .before .before .before .before .before .before .before) .args .b .now) 6)))
+translation-size c = rw (c .before .before .before .before .before .before .table-at2 .ensures .0, c .before .before .before .before .before .pair-count2 .ensures .0) at (c .tag-length2 .ensures)
+
 fault-requires : tie.Need-fault-requires
 fault-requires c κs = search needs
 
--- src/tags.rt:72:9
 returns : tie.Need-returns
-returns c = ?
+unfolding tagsWritten
+returns c =
+    let k = c .before in
+    let a = k .before .before .before .before .before .args in
+    refused-tags _ (a .name .now) (a .subgraph .now) (a .translation .now) (k .fault .result)
+    (ap (allWithin _ _ _) (sym (refused-asked (a .b .now) tagsOf (k .fault .result) (k .fault .ensures) (c .if1 .taken))))
 
--- src/tags.rt:74:9
 table-at-requires : tie.Need-table-at-requires
-table-at-requires c κs = ?
+table-at-requires c κs = let k = c in opened (start k .args .b .now) (clear k) .size
 
--- src/tags.rt:75:9
 pair-count-requires : tie.Need-pair-count-requires
-pair-count-requires c κs = ?
+pair-count-requires c κs = let k = c .before in opened (start k .args .b .now) (clear k) .size
 
--- src/tags.rt:76:9
 table-at-requires-2 : tie.Need-table-at-requires-2
-table-at-requires-2 c κs = ?
+table-at-requires-2 c κs = let k = c .before .before in opened (start k .args .b .now) (clear k) .size
 
--- src/tags.rt:77:9
 pair-count-requires-2 : tie.Need-pair-count-requires-2
-pair-count-requires-2 c κs = ?
+pair-count-requires-2 c κs = let k = c .before .before .before in opened (start k .args .b .now) (clear k) .size
 
--- src/tags.rt:78:21
 own-length-requires : tie.Need-own-length-requires
-own-length-requires c κs = ?
+own-length-requires c κs = let k = c .before .before .before .before in (opened (start k .args .b .now) (clear k), omega arith)
 
--- src/tags.rt:79:9
 returns-2 : tie.Need-returns-2
-returns-2 c = ?
+unfolding tagsWritten shown
+returns-2 c =
+    let k = c .before .before .before .before .before .before in
+    let a = start k .args in
+    refused-tags _ (a .name .now) (a .subgraph .now) (a .translation .now) 17
+    (ap (allWithin _ _ _) (asked-shown (a .b .now) tagsOf (clear k))
+    ∙ name-not (tagsOf (shown (a .b .now))) (length (a .name .now)) (length (a .subgraph .now)) (length (a .translation .now)) (omega (arith, name-size (c .before))))
 
--- src/tags.rt:81:25
 tag-length-requires : tie.Need-tag-length-requires
-tag-length-requires c κs = ?
+tag-length-requires c κs =
+    let k = c .before .before .before .before .before .before in
+    rw (c .before .before .before .before .before .table-at .ensures .0, c .before .before .before .before .pair-count .ensures .0) (opened (start k .args .b .now) (clear k) .subgraph)
 
--- src/tags.rt:82:9
 returns-3 : tie.Need-returns-3
-returns-3 c = ?
+unfolding tagsWritten shown
+returns-3 c =
+    let k = c .before .before .before .before .before .before .before .before in
+    let a = start k .args in
+    refused-tags _ (a .name .now) (a .subgraph .now) (a .translation .now) 17
+    (ap (allWithin _ _ _) (asked-shown (a .b .now) tagsOf (clear k))
+    ∙ subgraph-not (tagsOf (shown (a .b .now))) (length (a .name .now)) (length (a .subgraph .now)) (length (a .translation .now))
+    (omega (arith, name-size (c .before .before .before))) (omega (arith, subgraph-size (c .before))))
 
--- src/tags.rt:84:28
 tag-length-requires-2 : tie.Need-tag-length-requires-2
-tag-length-requires-2 c κs = ?
+tag-length-requires-2 c κs =
+    let k = c .before .before .before .before .before .before .before .before in
+    rw (c .before .before .before .before .before .table-at2 .ensures .0, c .before .before .before .before .pair-count2 .ensures .0) (opened (start k .args .b .now) (clear k) .translation)
 
--- src/tags.rt:85:9
 returns-4 : tie.Need-returns-4
-returns-4 c = ?
+unfolding tagsWritten shown
+returns-4 c =
+    let k = c .before .before .before .before .before .before .before .before .before .before in
+    let a = start k .args in
+    refused-tags _ (a .name .now) (a .subgraph .now) (a .translation .now) 17
+    (ap (allWithin _ _ _) (asked-shown (a .b .now) tagsOf (clear k))
+    ∙ translation-not (tagsOf (shown (a .b .now))) (length (a .name .now)) (length (a .subgraph .now)) (length (a .translation .now))
+    (omega (arith, name-size (c .before .before .before .before .before))) (omega (arith, subgraph-size (c .before .before .before))) (omega (arith, translation-size (c .before))))
 
--- src/tags.rt:87:9
 put-name-requires : tie.Need-put-name-requires
-put-name-requires c κs = ?
+put-name-requires c κs =
+    let k = c .before .before .before .before .before .before .before .before .before .before .before in
+    (opened (start k .args .b .now) (clear k), omega (arith, name-size (c .before .before .before .before .before .before), c .before .before .before .before .before .if2 .left))
 
--- src/tags.rt:88:9
 put-tag-requires : tie.Need-put-tag-requires
-put-tag-requires c κs = ?
+put-tag-requires c κs =
+    let k = c .before .before .before .before .before .before .before .before .before .before .before .before .before .before .before in
+    rw (c .before .before .before .before .before .before .before .before .before .before .before .before .before .before .table-at .ensures .0, c .before .before .before .before .before .before .before .before .before .before .before .before .before .pair-count .ensures .0)
+    (opened (start k .args .b .now) (clear k) .subgraph, omega (arith, subgraph-size (c .before .before .before .before .before .before .before .before), c .before .before .before .before .before .before .before .if3 .left))
 
--- src/tags.rt:89:9
 put-tag-requires-2 : tie.Need-put-tag-requires-2
-put-tag-requires-2 c κs = ?
+put-tag-requires-2 c κs =
+    let k = c .before .before .before .before .before .before .before .before .before .before .before .before .before .before .before .before .before .before .before in
+    rw (c .before .before .before .before .before .before .before .before .before .before .before .before .before .before .before .before .table-at2 .ensures .0, c .before .before .before .before .before .before .before .before .before .before .before .before .before .before .before .pair-count2 .ensures .0)
+    (opened (start k .args .b .now) (clear k) .translation, omega (arith, translation-size (c .before .before .before .before .before .before .before .before .before .before), c .before .before .before .before .before .before .before .before .before .if4 .left))
 
--- src/tags.rt:65:1
 same-length : tie.Need-same-length
 same-length c = search needs
 
--- src/tags.rt:65:1
 same-length-2 : tie.Need-same-length-2
 same-length-2 c = search needs
 
--- src/tags.rt:65:1
 same-length-3 : tie.Need-same-length-3
 same-length-3 c = search needs
 
--- src/tags.rt:65:1
 returns-5 : tie.Need-returns-5
-returns-5 c = ?
+unfolding tagsWritten shown
+returns-5 c =
+    let z = c .before .before in
+    let y = z .before .before .before .before in
+    let x = y .before .before .before .before in
+    let m = x .before .before in
+    let l = m .before .before .before in
+    let o = l .before .before in
+    let k = o .before .before .before .before .before in
+    let a = start k .args in
+    wrote-tags _ (a .name .now) (a .subgraph .now) (a .translation .now) (tagsOf (shown (a .b .now))) (x .put-name .result) (y .put-tag .result) (z .put-tag2 .result)
+    (x .put-name .last .0) (y .put-tag .last .0) (z .put-tag2 .last .0)
+    (ap (allWithin _ _ _) (asked-shown (a .b .now) tagsOf (clear k))
+    ∙ all-within (tagsOf (shown (a .b .now))) (length (a .name .now)) (length (a .subgraph .now)) (length (a .translation .now))
+    (omega (arith, name-size o, l .before .if2 .left)) (omega (arith, subgraph-size l, m .before .before .if3 .left)) (omega (arith, translation-size (m .before), m .if4 .left)))
+    (x .put-name .ensures)
+    (rw (o .before .before .before .before .table-at .ensures .0, o .before .before .before .pair-count .ensures .0) at (y .put-tag .ensures))
+    (rw (o .before .before .table-at2 .ensures .0, o .before .pair-count2 .ensures .0) at (z .put-tag2 .ensures))
 
 pub set-tags-spec : {M : Type 1} → statement M
 set-tags-spec =

@@ -1,5 +1,5 @@
 -- Two bytes for each pair besides its names, but one less in all.
-use mathlib.Core.Path.{_≡_, sym, ap, _∙_}
+use mathlib.Core.Path.{sym, ap}
 use Prim.Native.Nat.{_<_}
 use Rattle.export.specs.Texts.{valueSize}
 use Rattle.export.proofs.Values.{value-absent, value-present, value-length}
