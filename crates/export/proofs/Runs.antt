@@ -10,9 +10,8 @@ use Rattle.model.specs.Record.{Pair}
 use Rattle.model.specs.Layout.{nameAt, pairsFrom}
 use Rattle.record.proofs.Access.{pairAt}
 use Rattle.text.proofs.Put.{put-append}
-use Rattle.export.specs.Texts.{pairText, pairTexts, pairsSize}
+use Rattle.export.specs.Texts.{Wrote, pairText, pairTexts, pairsSize}
 use Rattle.export.specs.Places.{PlacesBelow, PairsIn}
-use Rattle.export.proofs.Writes.{Wrote}
 
 pub name-size : (b : Bytes) (i : ℕ) → length (nameAt b i) ≤ length b
 unfolding nameAt

@@ -1,15 +1,12 @@
--- What a writer of a text promises, and one writer after another.
+-- Nothing written, and one writer after another.
 use mathlib.Core.Path.{_≡_, sym, _∙_}
 use mathlib.Core.List.{[], _++_}
 use Prim.Native.Nat.{ℕ, _+_, _≤_}
 use native.Mathlib.Omega.{arith}
 use lib.ListN.{length, length-append}
-use Rattle.model.specs.Bytes.{Bytes, put}
+use Rattle.model.specs.Bytes.{Bytes}
+use Rattle.export.specs.Texts.{Wrote}
 use Rattle.text.proofs.Put.{put-none, put-append}
-
--- t is written at `at`: r is the place behind it, and o the output then
-abbrev pub Wrote : Bytes → ℕ → Bytes → ℕ → Bytes → Type 0
-Wrote out at t r o = (r ≡ at + length t) × (o ≡ put out at t)
 
 pub wrote-none : (out : Bytes) (at : ℕ) (t : Bytes) → t ≡ [] → Wrote out at t at out
 wrote-none out at t e = rw e (omega arith, sym (put-none out at))

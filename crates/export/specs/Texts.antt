@@ -1,11 +1,16 @@
--- The text of a run of pairs, whichever the format, and its size. Assumes nothing.
+-- What a writer promises; the text of a run of pairs, whichever the format, and its size. Assumes nothing.
+use mathlib.Core.Path.{_≡_}
 use mathlib.Core.List.{List, [], _∷_, _++_}
 use mathlib.Core.Option.{Option, some, none}
 use Prim.Native.Nat.{ℕ, _+_}
 use lib.ListN.{length}
-use Rattle.model.specs.Bytes.{Bytes}
+use Rattle.model.specs.Bytes.{Bytes, put}
 use Rattle.model.specs.Record.{Pair, GraphName}
 use Rattle.model.specs.Writing.{nameLine, pairLines}
+
+-- t is written at `at`: r is the place behind it, and o the output then
+abbrev pub Wrote : Bytes → ℕ → Bytes → ℕ → Bytes → Type 0
+Wrote out at t r o = (r ≡ at + length t) × (o ≡ put out at t)
 
 -- a pair's two names with `before`, `between` and `after`
 abbrev pub pairText : Bytes → ℕ → Bytes → Pair → Bytes

@@ -9,12 +9,11 @@ use text::read16;
 ghost use mathlib.Core.Path.{_≡_};
 ghost use Prim.Native.Nat.{_+_, _≤_, _<_};
 ghost use lib.ListN.{length};
-ghost use Rattle.model.specs.Bytes.{put};
 ghost use Rattle.model.specs.Numbers.{number};
 ghost use Rattle.model.specs.Layout.{ownAt, shown};
 ghost use Rattle.model.specs.Writing.{nameLine};
 ghost use Rattle.model.specs.Written.{gfaWritten, gafWritten};
-ghost use Rattle.export.specs.Texts.{nameSize, headerLines, headerSize};
+ghost use Rattle.export.specs.Texts.{Wrote, nameSize, headerLines, headerSize};
 ghost use Rattle.export.specs.Places.{RecordIn};
 ghost use Rattle.export.specs.Answers.{Answers};
 
@@ -34,8 +33,7 @@ pub fn own_length(b: &[u8], beyond: usize) -> usize
 // Writes the line of the own name, if there is one, with `before` in front of it.
 fn put_own(out: &mut [u8], at: usize, b: &[u8], before: &[u8]) -> usize
     requires { ⌜ RecordIn (now b) × (at + length (nameLine (now before) (ownAt (now b) (number (now b) 2))) ≤ length (now out)) ⌝ }
-    ensures { λ r. ⌜ (r ≡ at + length (nameLine (now (before .entry)) (ownAt (now (b .entry)) (number (now (b .entry)) 2))))
-        × (now (out .exit) ≡ put (now (out .entry)) at (nameLine (now (before .entry)) (ownAt (now (b .entry)) (number (now (b .entry)) 2)))) ⌝ }
+    ensures { λ r. ⌜ Wrote (now (out .entry)) at (nameLine (now (before .entry)) (ownAt (now (b .entry)) (number (now (b .entry)) 2))) r (now (out .exit)) ⌝ }
 {
     let own = read16(b, 2);
     if own == 0 {
@@ -68,8 +66,7 @@ fn put_lines(
     between: u8,
 ) -> usize
     requires { ⌜ RecordIn (now b) × (length (headerLines (now name) (now subgraph) (now translation) between (shown (now b))) ≤ length (now out)) ⌝ }
-    ensures { λ r. ⌜ (r ≡ length (headerLines (now (name .entry)) (now (subgraph .entry)) (now (translation .entry)) between (shown (now (b .entry)))))
-        × (now (out .exit) ≡ put (now (out .entry)) 0 (headerLines (now (name .entry)) (now (subgraph .entry)) (now (translation .entry)) between (shown (now (b .entry))))) ⌝ }
+    ensures { λ r. ⌜ Wrote (now (out .entry)) 0 (headerLines (now (name .entry)) (now (subgraph .entry)) (now (translation .entry)) between (shown (now (b .entry)))) r (now (out .exit)) ⌝ }
 {
     let first = 8 + 4 * read16(b, 0);
     let s = read16(b, 4);
@@ -91,7 +88,7 @@ pub fn to_gfa_header_lines(b: &[u8], out: &mut [u8]) -> Written
     if out.len() < lines_length(b, 8, 9) {
         return Written::Refused(17);
     }
-    Written::Wrote(put_lines(out, b, b"H\tNM:Z:", b"H\tSG:Z:", b"H\tTL:Z:", 44))
+    Written::Done(put_lines(out, b, b"H\tNM:Z:", b"H\tSG:Z:", b"H\tTL:Z:", 44))
 }
 
 // Writes a record as GAF header lines.
@@ -105,5 +102,5 @@ pub fn to_gaf_header_lines(b: &[u8], out: &mut [u8]) -> Written
     if out.len() < lines_length(b, 5, 6) {
         return Written::Refused(17);
     }
-    Written::Wrote(put_lines(out, b, b"@RN\t", b"@SG\t", b"@TL\t", 9))
+    Written::Done(put_lines(out, b, b"@RN\t", b"@SG\t", b"@TL\t", 9))
 }

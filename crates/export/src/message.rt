@@ -6,16 +6,16 @@ use text::put_decimal;
 ghost use mathlib.Core.Path.{_≡_};
 ghost use Prim.Native.Nat.{_+_, _≤_, _<_};
 ghost use lib.ListN.{length};
-ghost use Rattle.model.specs.Bytes.{put};
 ghost use Rattle.model.specs.Message.{errorMessage};
 ghost use Rattle.model.specs.Written.{messageWritten};
+ghost use Rattle.export.specs.Texts.{Wrote};
 ghost use Rattle.export.specs.Words.{lineWords, numberWords, quoted};
 ghost use Rattle.export.specs.Answers.{Answers};
 
 // Writes the words that name the line, for the numbers 1 and 2.
 fn put_line(out: &mut [u8], at: usize, number: usize, line: usize) -> usize
     requires { ⌜ at + length (lineWords number line) ≤ length (now out) ⌝ }
-    ensures { λ r. ⌜ (r ≡ at + length (lineWords number line)) × (now (out .exit) ≡ put (now (out .entry)) at (lineWords number line)) ⌝ }
+    ensures { λ r. ⌜ Wrote (now (out .entry)) at (lineWords number line) r (now (out .exit)) ⌝ }
 {
     if number < 1 {
         return at;
@@ -30,7 +30,7 @@ fn put_line(out: &mut [u8], at: usize, number: usize, line: usize) -> usize
 // Writes the words of the number.
 fn put_words(out: &mut [u8], at: usize, number: usize) -> usize
     requires { ⌜ at + length (numberWords number) ≤ length (now out) ⌝ }
-    ensures { λ r. ⌜ (r ≡ at + length (numberWords number)) × (now (out .exit) ≡ put (now (out .entry)) at (numberWords number)) ⌝ }
+    ensures { λ r. ⌜ Wrote (now (out .entry)) at (numberWords number) r (now (out .exit)) ⌝ }
 {
     match number {
         1 => copy(out, at, b": not enough fields"),
@@ -50,7 +50,7 @@ fn put_words(out: &mut [u8], at: usize, number: usize) -> usize
 // Writes the quoted part, for the numbers 2 to 10.
 fn put_quoted(out: &mut [u8], at: usize, number: usize, part: &[u8]) -> usize
     requires { ⌜ at + length (quoted number (now part)) ≤ length (now out) ⌝ }
-    ensures { λ r. ⌜ (r ≡ at + length (quoted number (now (part .entry)))) × (now (out .exit) ≡ put (now (out .entry)) at (quoted number (now (part .entry)))) ⌝ }
+    ensures { λ r. ⌜ Wrote (now (out .entry)) at (quoted number (now (part .entry))) r (now (out .exit)) ⌝ }
 {
     if number < 2 {
         return at;
@@ -113,7 +113,7 @@ fn message_length(number: usize, line: usize, part: &[u8]) -> usize
 // Writes a refusal's text.
 fn put_message(out: &mut [u8], at: usize, number: usize, line: usize, part: &[u8]) -> usize
     requires { ⌜ at + length (errorMessage number line (now part)) ≤ length (now out) ⌝ }
-    ensures { λ r. ⌜ (r ≡ at + length (errorMessage number line (now (part .entry)))) × (now (out .exit) ≡ put (now (out .entry)) at (errorMessage number line (now (part .entry)))) ⌝ }
+    ensures { λ r. ⌜ Wrote (now (out .entry)) at (errorMessage number line (now (part .entry))) r (now (out .exit)) ⌝ }
 {
     let p = put_line(out, at, number, line);
     let q = put_words(out, p, number);
@@ -127,5 +127,5 @@ pub fn error_message(number: usize, line: usize, part: &[u8], out: &mut [u8]) ->
     if out.len() < message_length(number, line, part) {
         return Written::Refused(17);
     }
-    Written::Wrote(put_message(out, 0, number, line, part))
+    Written::Done(put_message(out, 0, number, line, part))
 }

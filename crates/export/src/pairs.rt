@@ -6,9 +6,8 @@ use text::read16;
 ghost use mathlib.Core.Path.{_≡_};
 ghost use Prim.Native.Nat.{_+_, _≤_, _<_};
 ghost use lib.ListN.{length};
-ghost use Rattle.model.specs.Bytes.{put};
 ghost use Rattle.model.specs.Layout.{pairsFrom};
-ghost use Rattle.export.specs.Texts.{pairText, pairTexts, pairsSize};
+ghost use Rattle.export.specs.Texts.{Wrote, pairText, pairTexts, pairsSize};
 ghost use Rattle.export.specs.Places.{PairsIn};
 
 // How long the text of `count` pairs from byte `pairs` on is, with `beyond` bytes besides the two names of each.
@@ -40,8 +39,7 @@ pub fn put_pair(
     after: &[u8],
 ) -> usize
     requires { ⌜ at + length (pairText (now before) between (now after) (record { from = now from; to = now to })) ≤ length (now out) ⌝ }
-    ensures { λ r. ⌜ (r ≡ at + length (pairText (now (before .entry)) between (now (after .entry)) (record { from = now (from .entry); to = now (to .entry) })))
-        × (now (out .exit) ≡ put (now (out .entry)) at (pairText (now (before .entry)) between (now (after .entry)) (record { from = now (from .entry); to = now (to .entry) }))) ⌝ }
+    ensures { λ r. ⌜ Wrote (now (out .entry)) at (pairText (now (before .entry)) between (now (after .entry)) (record { from = now (from .entry); to = now (to .entry) })) r (now (out .exit)) ⌝ }
 {
     let p = copy(out, at, before);
     let q = copy(out, p, from);
@@ -62,8 +60,7 @@ pub fn put_pairs(
     after: &[u8],
 ) -> usize
     requires { ⌜ PairsIn (now b) pairs count × (at + length (pairTexts (now before) between (now after) (pairsFrom (now b) pairs count)) ≤ length (now out)) ⌝ }
-    ensures { λ r. ⌜ (r ≡ at + length (pairTexts (now (before .entry)) between (now (after .entry)) (pairsFrom (now (b .entry)) pairs count)))
-        × (now (out .exit) ≡ put (now (out .entry)) at (pairTexts (now (before .entry)) between (now (after .entry)) (pairsFrom (now (b .entry)) pairs count))) ⌝ }
+    ensures { λ r. ⌜ Wrote (now (out .entry)) at (pairTexts (now (before .entry)) between (now (after .entry)) (pairsFrom (now (b .entry)) pairs count)) r (now (out .exit)) ⌝ }
 {
     let mut q = at;
     let mut p = pairs;

@@ -1,6 +1,4 @@
 -- Three texts, one behind the other: the line of the own name and both runs of pairs.
-use mathlib.Core.Path.{_∙_}
-use native.Mathlib.Nat.{zero-add}
 use lib.ListN.{length-append}
 use mathlib.Core.List.{[], _∷_, _++_}
 use Rattle.model.specs.Layout.{ownAt, pairsFrom}
@@ -93,11 +91,10 @@ returns c =
     let front =
     wrote-both (a .out .now) 0 x y (o .put-own .result) (o .put-own .last .0) (k .put-pairs .result) (k .put-pairs .last .0)
     (omega (arith, s .pre .1)) (o .put-own .ensures) (rw (r0 .read16 .ensures .0, r4 .read162 .ensures .0) at (k .put-pairs .ensures)) in
-    let all =
-    wrote-both (a .out .now) 0 (x ++ y) z (k .put-pairs .result) (k .put-pairs .last .0) (l .put-pairs2 .result) (l .put-pairs2 .last .0)
+    rw whole
+    (wrote-both (a .out .now) 0 (x ++ y) z (k .put-pairs .result) (k .put-pairs .last .0) (l .put-pairs2 .result) (l .put-pairs2 .last .0)
     (rw (length-append x y) (omega (arith, s .pre .1))) front
-    (rw (r0 .read16 .ensures .0, r4 .read162 .ensures .0, r6 .read163 .ensures .0) at (l .put-pairs2 .ensures)) in
-    rw whole (all .0 ∙ zero-add _, all .1)
+    (rw (r0 .read16 .ensures .0, r4 .read162 .ensures .0, r6 .read163 .ensures .0) at (l .put-pairs2 .ensures)))
 
 pub put-lines-spec : {M : Type 1} → statement M
 put-lines-spec =

@@ -70,7 +70,7 @@ returns-3 c =
     wrote-answers _ (a .out .now) t (w .put-lines .result) (w .put-lines .last .0)
     (ap (within (length (a .out .now))) (asked-shown (a .b .now) toGafHeaderLines (sym (k .fault .ensures) ∙ m .before .if1 .left))
     ∙ within-all t (length (a .out .now)) (omega (arith, m .lines-length .ensures, length-gaf (shown (a .b .now)))))
-    (w .put-lines .ensures .0) (w .put-lines .ensures .1)
+    (w .put-lines .ensures)
 
 pub to-gaf-header-lines-spec : {M : Type 1} → statement M
 to-gaf-header-lines-spec =

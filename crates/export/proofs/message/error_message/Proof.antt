@@ -1,6 +1,4 @@
 -- Refused where it is longer than the output, else written to its front.
-use mathlib.Core.Path.{_∙_}
-use native.Mathlib.Nat.{zero-add}
 use Rattle.model.specs.Message.{errorMessage}
 use Rattle.model.specs.Written.{messageWritten}
 use Rattle.export.proofs.Answering.{refused-answers, wrote-answers, within-not, within-all}
@@ -31,7 +29,7 @@ returns-2 c =
     let a = m .before .before .before .before .before .before .args in
     let t = errorMessage (a .number) (a .line) (a .part .now) in
     wrote-answers _ (a .out .now) t (m .put-message .result) (m .put-message .last .0)
-    (within-all t _ (omega (arith, m .before .before .before .message-length .ensures))) (m .put-message .ensures .0 ∙ zero-add _) (m .put-message .ensures .1)
+    (within-all t _ (omega (arith, m .before .before .before .message-length .ensures))) (m .put-message .ensures)
 
 pub error-message-spec : {M : Type 1} → statement M
 error-message-spec =

@@ -6,10 +6,10 @@ use mathlib.Core.List.{[], _∷_}
 use Rattle.model.specs.Record.{Pair}
 use Rattle.model.specs.Layout.{pairsFrom}
 use Rattle.record.proofs.Access.{pairAt}
-use Rattle.export.specs.Texts.{pairText, pairTexts, valueSize}
+use Rattle.export.specs.Texts.{Wrote, pairText, pairTexts, valueSize}
 use Rattle.export.proofs.Runs.{pair-places, pairs-rest, pair-read}
 use Rattle.export.proofs.Values.{value-absent, value-present}
-use Rattle.export.proofs.Writes.{Wrote, wrote-both}
+use Rattle.export.proofs.Writes.{wrote-both}
 use Rattle.export.proofs.Answering.{absent-answers, size-answers}
 use native.Mathlib.Omega.{arith}
 use borrow.Author.Needs.{needs}
@@ -44,14 +44,19 @@ slice-aggregate-put-pair c = search needs
 slice-aggregate-put-pair-2 : tie.Need-slice-aggregate-put-pair-2
 slice-aggregate-put-pair-2 c = search needs
 
+abbrev start : tie.After-put-pair-arg3 → tie.Start
+start c = c .before .before .before .before .before .before .before .before .before .before
+
+-- the first pair, as it was read
 pair : (c : tie.After-put-pair-arg3)
-    → _≡_ {A = Pair} (record { from = c .before .before .before .before .before .name-at .result .now; to = c .before .before .before .name-at2 .result .now }) (pairAt (c .before .before .before .before .before .before .before .before .before .before .args .b .now) (c .before .before .before .before .before .before .before .before .before .before .args .pairs))
+    → _≡_ {A = Pair} (record { from = c .before .before .before .before .before .name-at .result .now; to = c .before .before .before .name-at2 .result .now }) (pairAt (start c .args .b .now) (start c .args .pairs))
 pair c =
-    let k = c .before .before .before .before .before .before in
-    let j = c .before .before .before .before in
-    let a = c .before .before .before .before .before .before .before .before .before .before .args in
-    pair-read (a .b .now) _ _ (k .read16 .result) (j .read162 .result) (a .pairs)
-    (k .read16 .ensures .0) (c .before .before .before .before .before .name-at .ensures) (j .read162 .ensures .0) (c .before .before .before .name-at2 .ensures)
+    let r = c .before .before .before .before .before .before in
+    let n = c .before .before .before .before .before in
+    let q = c .before .before .before .before in
+    let m = c .before .before .before in
+    let a = start c .args in
+    pair-read (a .b .now) _ _ (r .read16 .result) (q .read162 .result) (a .pairs) (r .read16 .ensures .0) (n .name-at .ensures) (q .read162 .ensures .0) (m .name-at2 .ensures)
 
 put-pair-requires : tie.Need-put-pair-requires
 put-pair-requires c κs =

@@ -1,12 +1,11 @@
 -- A fault is the refusal; else each value is measured, and all are written if all fit.
 use mathlib.Core.Path.{_≡_, sym, ap, _∙_}
 use lib.ListN.{length}
-use Rattle.model.specs.Numbers.{number}
-use Rattle.model.specs.Layout.{ownAt, pairsFrom, shown}
+use Rattle.model.specs.Layout.{shown}
+use Rattle.model.specs.Record.{GraphName}
 use Rattle.model.specs.Writing.{relationsTag}
 use Rattle.model.specs.Questions.{faultOf}
 use Rattle.model.specs.Written.{tagsOf, allWithin, tagsWritten}
-use Rattle.record.specs.Test.{subgraphAt, translationAt}
 use Rattle.record.proofs.Answers.{refused-asked}
 use Rattle.export.specs.Texts.{valueSize}
 use Rattle.export.proofs.Opened.{opened, asked-shown}
@@ -24,16 +23,20 @@ clear : (c : tie.Else1) → faultOf (start c .args .b .now) ≡ 0
 clear c = sym (c .before .fault .ensures) ∙ c .if1 .left
 
 -- the size of each value, as it was measured
-name-size : (c : tie.After-own-length) → c .own-length .result ≡ valueSize (ownAt (start (c .before .before .before .before .before) .args .b .now) (number (start (c .before .before .before .before .before) .args .b .now) 2))
-name-size c = c .own-length .ensures .0 ∙ size-alone (ownAt (start (c .before .before .before .before .before) .args .b .now) (number (start (c .before .before .before .before .before) .args .b .now) 2))
+abbrev own : tie.After-own-length → GraphName
+own c = shown (start (c .before .before .before .before .before) .args .b .now)
 
-subgraph-size : (c : tie.After-tag-length)
-    → c .tag-length .result ≡ valueSize (relationsTag (pairsFrom (start (c .before .before .before .before .before .before .before) .args .b .now) (subgraphAt (start (c .before .before .before .before .before .before .before) .args .b .now)) (number (start (c .before .before .before .before .before .before .before) .args .b .now) 4)))
-subgraph-size c = rw (c .before .before .before .before .before .before .table-at .ensures .0, c .before .before .before .before .before .pair-count .ensures .0) at (c .tag-length .ensures)
+name-size : (c : tie.After-own-length) → c .own-length .result ≡ valueSize (own c .name)
+unfolding shown
+name-size c = c .own-length .ensures .0 ∙ size-alone (own c .name)
 
-translation-size : (c : tie.After-tag-length2)
-    → c .tag-length2 .result ≡ valueSize (relationsTag (pairsFrom (start (c .before .before .before .before .before .before .before .before .before) .args .b .now) (translationAt (start (c .before .before .before .before .before .before .before .before .before) .args .b .now)) (number (start (c .before .before .before .before .before .before .before .before .before) .args .b .now) 6)))
-translation-size c = rw (c .before .before .before .before .before .before .table-at2 .ensures .0, c .before .before .before .before .before .pair-count2 .ensures .0) at (c .tag-length2 .ensures)
+subgraph-size : (c : tie.After-tag-length) → c .tag-length .result ≡ valueSize (relationsTag (own (c .before .before) .subgraph))
+unfolding shown
+subgraph-size c = let o = c .before .before in rw (o .before .before .before .before .table-at .ensures .0, o .before .before .before .pair-count .ensures .0) at (c .tag-length .ensures)
+
+translation-size : (c : tie.After-tag-length2) → c .tag-length2 .result ≡ valueSize (relationsTag (own (c .before .before .before .before) .translation))
+unfolding shown
+translation-size c = let o = c .before .before .before .before in rw (o .before .before .table-at2 .ensures .0, o .before .pair-count2 .ensures .0) at (c .tag-length2 .ensures)
 
 fault-requires : tie.Need-fault-requires
 fault-requires c κs = search needs
@@ -101,17 +104,20 @@ returns-4 c =
     (omega (arith, name-size (c .before .before .before .before .before))) (omega (arith, subgraph-size (c .before .before .before))) (omega (arith, translation-size (c .before))))
 
 put-name-requires : tie.Need-put-name-requires
+unfolding shown
 put-name-requires c κs =
     let k = c .before .before .before .before .before .before .before .before .before .before .before in
     (opened (start k .args .b .now) (clear k), omega (arith, name-size (c .before .before .before .before .before .before), c .before .before .before .before .before .if2 .left))
 
 put-tag-requires : tie.Need-put-tag-requires
+unfolding shown
 put-tag-requires c κs =
     let k = c .before .before .before .before .before .before .before .before .before .before .before .before .before .before .before in
     rw (c .before .before .before .before .before .before .before .before .before .before .before .before .before .before .table-at .ensures .0, c .before .before .before .before .before .before .before .before .before .before .before .before .before .pair-count .ensures .0)
     (opened (start k .args .b .now) (clear k) .subgraph, omega (arith, subgraph-size (c .before .before .before .before .before .before .before .before), c .before .before .before .before .before .before .before .if3 .left))
 
 put-tag-requires-2 : tie.Need-put-tag-requires-2
+unfolding shown
 put-tag-requires-2 c κs =
     let k = c .before .before .before .before .before .before .before .before .before .before .before .before .before .before .before .before .before .before .before in
     rw (c .before .before .before .before .before .before .before .before .before .before .before .before .before .before .before .before .table-at2 .ensures .0, c .before .before .before .before .before .before .before .before .before .before .before .before .before .before .before .pair-count2 .ensures .0)
