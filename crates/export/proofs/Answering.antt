@@ -10,7 +10,7 @@ use borrow.Author.Tests.{le-leb, lt-leb}
 use Rattle.model.specs.Bytes.{Bytes}
 use Rattle.model.specs.Questions.{Given, refuses, gives}
 use Rattle.model.specs.Written.{within, Tags, fits, allWithin}
-use Rattle.export.specs.declared.answer.Written.the-variants.{Refused, Done}
+use Rattle.export.specs.declared.answer.Written.the-variants as written
 use Rattle.export.specs.declared.answer.WrittenTags.the-variants as tags
 use Rattle.export.specs.declared.answer.Tag.{Tag}
 use Rattle.export.specs.declared.answer.Tag.the-variants.{Absent, Size}
@@ -18,10 +18,10 @@ use Rattle.export.specs.Answers.{Answers, TagAnswers, AllAnswers}
 use Rattle.export.specs.Texts.{Wrote, valueSize}
 
 module _ (given : Given Bytes) (out : Bytes) where
-  pub refused-answers : (n : ℕ) → given ≡ refuses n → Answers given out (Refused n) out
+  pub refused-answers : (n : ℕ) → given ≡ refuses n → Answers given out (written.Refused n) out
   refused-answers n e = rw e record { answer = refl; output = refl }
 
-  pub wrote-answers : (t : Bytes) (r : ℕ) (o : Bytes) → given ≡ gives t → Wrote out 0 t r o → Answers given out (Done r) o
+  pub wrote-answers : (t : Bytes) (r : ℕ) (o : Bytes) → given ≡ gives t → Wrote out 0 t r o → Answers given out (written.Wrote r) o
   wrote-answers t r o e w = rw e record { answer = ap gives (w .0 ∙ zero-add (length t)); output = w .1 }
 
 module _ (t : Bytes) (room : ℕ) where

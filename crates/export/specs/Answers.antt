@@ -7,7 +7,7 @@ use Rattle.model.specs.Bytes.{Bytes}
 use Rattle.model.specs.Questions.{Given, refuses, gives, mapped}
 use Rattle.model.specs.Written.{sizeOf, outputWith, Tags, TagSizes, tagSizes, putValue, outputWithTag}
 use Rattle.export.specs.declared.answer.Written.{Written}
-use Rattle.export.specs.declared.answer.Written.the-variants.{Refused, Done}
+use Rattle.export.specs.declared.answer.Written.the-variants.{Refused, Wrote}
 use Rattle.export.specs.declared.answer.Tag.{Tag}
 use Rattle.export.specs.declared.answer.Tag.the-variants.{Absent, Size}
 use Rattle.export.specs.declared.answer.WrittenTags.{WrittenTags}
@@ -15,7 +15,7 @@ use Rattle.export.specs.declared.answer.WrittenTags.the-variants as tags
 
 abbrev pub sizeGiven : Written → Given ℕ
 sizeGiven (Refused n) = refuses n
-sizeGiven (Done n) = gives n
+sizeGiven (Wrote n) = gives n
 
 -- the answer, and what the output holds
 pub record Answers (given : Given Bytes) (out : Bytes) (r : Written) (after : Bytes) : Type 0 where

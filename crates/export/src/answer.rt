@@ -3,7 +3,7 @@
 // How many bytes were written to the front of the output, or the number of a refusal.
 pub enum Written {
     Refused(u32),
-    Done(usize),
+    Wrote(usize),
 }
 
 // How many bytes of one tag's value were written, or that there is none.

@@ -66,7 +66,8 @@ fn put_lines(
     between: u8,
 ) -> usize
     requires { ⌜ RecordIn (now b) × (length (headerLines (now name) (now subgraph) (now translation) between (shown (now b))) ≤ length (now out)) ⌝ }
-    ensures { λ r. ⌜ Wrote (now (out .entry)) 0 (headerLines (now (name .entry)) (now (subgraph .entry)) (now (translation .entry)) between (shown (now (b .entry)))) r (now (out .exit)) ⌝ }
+    ensures { λ r. ⌜ Wrote (now (out .entry)) 0
+        (headerLines (now (name .entry)) (now (subgraph .entry)) (now (translation .entry)) between (shown (now (b .entry)))) r (now (out .exit)) ⌝ }
 {
     let first = 8 + 4 * read16(b, 0);
     let s = read16(b, 4);
@@ -88,7 +89,7 @@ pub fn to_gfa_header_lines(b: &[u8], out: &mut [u8]) -> Written
     if out.len() < lines_length(b, 8, 9) {
         return Written::Refused(17);
     }
-    Written::Done(put_lines(out, b, b"H\tNM:Z:", b"H\tSG:Z:", b"H\tTL:Z:", 44))
+    Written::Wrote(put_lines(out, b, b"H\tNM:Z:", b"H\tSG:Z:", b"H\tTL:Z:", 44))
 }
 
 // Writes a record as GAF header lines.
@@ -102,5 +103,5 @@ pub fn to_gaf_header_lines(b: &[u8], out: &mut [u8]) -> Written
     if out.len() < lines_length(b, 5, 6) {
         return Written::Refused(17);
     }
-    Written::Done(put_lines(out, b, b"@RN\t", b"@SG\t", b"@TL\t", 9))
+    Written::Wrote(put_lines(out, b, b"@RN\t", b"@SG\t", b"@TL\t", 9))
 }

@@ -127,5 +127,5 @@ pub fn error_message(number: usize, line: usize, part: &[u8], out: &mut [u8]) ->
     if out.len() < message_length(number, line, part) {
         return Written::Refused(17);
     }
-    Written::Done(put_message(out, 0, number, line, part))
+    Written::Wrote(put_message(out, 0, number, line, part))
 }

@@ -39,7 +39,8 @@ pub fn put_pair(
     after: &[u8],
 ) -> usize
     requires { ⌜ at + length (pairText (now before) between (now after) (record { from = now from; to = now to })) ≤ length (now out) ⌝ }
-    ensures { λ r. ⌜ Wrote (now (out .entry)) at (pairText (now (before .entry)) between (now (after .entry)) (record { from = now (from .entry); to = now (to .entry) })) r (now (out .exit)) ⌝ }
+    ensures { λ r. ⌜ Wrote (now (out .entry)) at
+        (pairText (now (before .entry)) between (now (after .entry)) (record { from = now (from .entry); to = now (to .entry) })) r (now (out .exit)) ⌝ }
 {
     let p = copy(out, at, before);
     let q = copy(out, p, from);

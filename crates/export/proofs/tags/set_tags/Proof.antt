@@ -7,6 +7,7 @@ use Rattle.model.specs.Writing.{relationsTag}
 use Rattle.model.specs.Questions.{faultOf}
 use Rattle.model.specs.Written.{tagsOf, allWithin, tagsWritten}
 use Rattle.record.proofs.Answers.{refused-asked}
+use Rattle.export.specs.Places.{RecordIn}
 use Rattle.export.specs.Texts.{valueSize}
 use Rattle.export.proofs.Opened.{opened, asked-shown}
 use Rattle.export.proofs.Values.{size-alone}
@@ -21,6 +22,9 @@ start c = c .before .before .before .before .before .before
 
 clear : (c : tie.Else1) → faultOf (start c .args .b .now) ≡ 0
 clear c = sym (c .before .fault .ensures) ∙ c .if1 .left
+
+holds : (c : tie.Else1) → RecordIn (start c .args .b .now)
+holds c = opened (start c .args .b .now) (clear c)
 
 -- the size of each value, as it was measured
 abbrev own : tie.After-own-length → GraphName
@@ -50,19 +54,19 @@ returns c =
     (ap (allWithin _ _ _) (sym (refused-asked (a .b .now) tagsOf (k .fault .result) (k .fault .ensures) (c .if1 .taken))))
 
 table-at-requires : tie.Need-table-at-requires
-table-at-requires c κs = let k = c in opened (start k .args .b .now) (clear k) .size
+table-at-requires c κs = holds c .size
 
 pair-count-requires : tie.Need-pair-count-requires
-pair-count-requires c κs = let k = c .before in opened (start k .args .b .now) (clear k) .size
+pair-count-requires c κs = holds (c .before) .size
 
 table-at-requires-2 : tie.Need-table-at-requires-2
-table-at-requires-2 c κs = let k = c .before .before in opened (start k .args .b .now) (clear k) .size
+table-at-requires-2 c κs = holds (c .before .before) .size
 
 pair-count-requires-2 : tie.Need-pair-count-requires-2
-pair-count-requires-2 c κs = let k = c .before .before .before in opened (start k .args .b .now) (clear k) .size
+pair-count-requires-2 c κs = holds (c .before .before .before) .size
 
 own-length-requires : tie.Need-own-length-requires
-own-length-requires c κs = let k = c .before .before .before .before in (opened (start k .args .b .now) (clear k), omega arith)
+own-length-requires c κs = (holds (c .before .before .before .before), omega arith)
 
 returns-2 : tie.Need-returns-2
 unfolding tagsWritten shown
@@ -76,7 +80,7 @@ returns-2 c =
 tag-length-requires : tie.Need-tag-length-requires
 tag-length-requires c κs =
     let k = c .before .before .before .before .before .before in
-    rw (c .before .before .before .before .before .table-at .ensures .0, c .before .before .before .before .pair-count .ensures .0) (opened (start k .args .b .now) (clear k) .subgraph)
+    rw (c .before .before .before .before .before .table-at .ensures .0, c .before .before .before .before .pair-count .ensures .0) (holds k .subgraph)
 
 returns-3 : tie.Need-returns-3
 unfolding tagsWritten shown
@@ -91,7 +95,7 @@ returns-3 c =
 tag-length-requires-2 : tie.Need-tag-length-requires-2
 tag-length-requires-2 c κs =
     let k = c .before .before .before .before .before .before .before .before in
-    rw (c .before .before .before .before .before .table-at2 .ensures .0, c .before .before .before .before .pair-count2 .ensures .0) (opened (start k .args .b .now) (clear k) .translation)
+    rw (c .before .before .before .before .before .table-at2 .ensures .0, c .before .before .before .before .pair-count2 .ensures .0) (holds k .translation)
 
 returns-4 : tie.Need-returns-4
 unfolding tagsWritten shown
@@ -107,21 +111,21 @@ put-name-requires : tie.Need-put-name-requires
 unfolding shown
 put-name-requires c κs =
     let k = c .before .before .before .before .before .before .before .before .before .before .before in
-    (opened (start k .args .b .now) (clear k), omega (arith, name-size (c .before .before .before .before .before .before), c .before .before .before .before .before .if2 .left))
+    (holds k, omega (arith, name-size (c .before .before .before .before .before .before), c .before .before .before .before .before .if2 .left))
 
 put-tag-requires : tie.Need-put-tag-requires
 unfolding shown
 put-tag-requires c κs =
     let k = c .before .before .before .before .before .before .before .before .before .before .before .before .before .before .before in
     rw (c .before .before .before .before .before .before .before .before .before .before .before .before .before .before .table-at .ensures .0, c .before .before .before .before .before .before .before .before .before .before .before .before .before .pair-count .ensures .0)
-    (opened (start k .args .b .now) (clear k) .subgraph, omega (arith, subgraph-size (c .before .before .before .before .before .before .before .before), c .before .before .before .before .before .before .before .if3 .left))
+    (holds k .subgraph, omega (arith, subgraph-size (c .before .before .before .before .before .before .before .before), c .before .before .before .before .before .before .before .if3 .left))
 
 put-tag-requires-2 : tie.Need-put-tag-requires-2
 unfolding shown
 put-tag-requires-2 c κs =
     let k = c .before .before .before .before .before .before .before .before .before .before .before .before .before .before .before .before .before .before .before in
     rw (c .before .before .before .before .before .before .before .before .before .before .before .before .before .before .before .before .table-at2 .ensures .0, c .before .before .before .before .before .before .before .before .before .before .before .before .before .before .before .pair-count2 .ensures .0)
-    (opened (start k .args .b .now) (clear k) .translation, omega (arith, translation-size (c .before .before .before .before .before .before .before .before .before .before), c .before .before .before .before .before .before .before .before .before .if4 .left))
+    (holds k .translation, omega (arith, translation-size (c .before .before .before .before .before .before .before .before .before .before), c .before .before .before .before .before .before .before .before .before .if4 .left))
 
 same-length : tie.Need-same-length
 same-length c = search needs
