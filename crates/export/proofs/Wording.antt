@@ -50,6 +50,12 @@ no-words number line part h =
     )
     (refl, refl)
 
+message-none : (number line : ℕ) (part : Bytes) → 10 < number → errorMessage number line part ≡ lineWords number line ++ (numberWords number ++ quoted number part)
+unfolding lineWords quoted
+message-none number line part h =
+    let none = no-words number line part (λ k. h) in
+    rw (none .0, none .1, only-above 1 2 number _ (omega arith) (omega arith), only-above 2 10 number part (omega arith) h)
+
 pub message-parts : (number line : ℕ) (part : Bytes) → errorMessage number line part ≡ lineWords number line ++ (numberWords number ++ quoted number part)
 unfolding errorMessage lineWords numberWords quoted
 message-parts zero line part = refl
@@ -63,7 +69,4 @@ message-parts (suc (suc (suc (suc (suc (suc (suc zero))))))) line part = refl
 message-parts (suc (suc (suc (suc (suc (suc (suc (suc zero)))))))) line part = refl
 message-parts (suc (suc (suc (suc (suc (suc (suc (suc (suc zero))))))))) line part = refl
 message-parts (suc (suc (suc (suc (suc (suc (suc (suc (suc (suc zero)))))))))) line part = refl
-message-parts (suc (suc (suc (suc (suc (suc (suc (suc (suc (suc (suc n))))))))))) line part =
-    let h : 10 < suc (suc (suc (suc (suc (suc (suc (suc (suc (suc (suc n)))))))))) = omega arith in
-    let none = no-words (suc (suc (suc (suc (suc (suc (suc (suc (suc (suc (suc n))))))))))) line part (λ k. h) in
-    rw (none .0, none .1, only-above 1 2 (suc (suc (suc (suc (suc (suc (suc (suc (suc (suc (suc n))))))))))) _ (omega arith) (omega arith), only-above 2 10 (suc (suc (suc (suc (suc (suc (suc (suc (suc (suc (suc n))))))))))) part (omega arith) h)
+message-parts (suc (suc (suc (suc (suc (suc (suc (suc (suc (suc (suc n))))))))))) line part = message-none (suc (suc (suc (suc (suc (suc (suc (suc (suc (suc (suc n))))))))))) line part (omega arith)
