@@ -4,6 +4,8 @@ use mathlib.Core.Option.{Option, some, none}
 use Prim.Native.Nat.{ℕ, _+_}
 use Rattle.model.specs.declared.Strictness.{Strictness}
 use Rattle.model.specs.declared.Strictness.the-variants.{Fine, Faulty}
+use lib.ListN.{length}
+use Rattle.model.specs.Bytes.{Bytes}
 use Rattle.model.specs.Questions.{Part, PairParts}
 
 abbrev pub oneIf : Bool → ℕ
@@ -14,9 +16,12 @@ abbrev pub isPresent : {A : Type 0} → Option A → ℕ
 isPresent none = 0
 isPresent (some a) = 1
 
-abbrev orZero : {A : Type 0} → (A → ℕ) → Option A → ℕ
+abbrev pub orZero : {A : Type 0} → (A → ℕ) → Option A → ℕ
 orZero f none = 0
 orZero f (some a) = f a
+
+abbrev pub lengthOf : Option Bytes → ℕ
+lengthOf = orZero length
 
 abbrev pub startOf : Option Part → ℕ
 startOf = orZero (λ (p : Part). p .start)

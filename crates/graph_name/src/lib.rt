@@ -4,6 +4,7 @@
 // definition of `model/specs`, on the arguments alone.
 mod lines;
 mod records;
+mod texts;
 
 pub use lines::graph_name_check_strict;
 pub use records::graph_name_counts;
@@ -12,3 +13,7 @@ pub use records::graph_name_name;
 pub use records::graph_name_name_at;
 pub use records::graph_name_subgraph_at;
 pub use records::graph_name_translation_at;
+pub use texts::graph_name_error_message;
+pub use texts::graph_name_set_tags;
+pub use texts::graph_name_to_gaf_header_lines;
+pub use texts::graph_name_to_gfa_header_lines;

@@ -1,0 +1,128 @@
+// A record written as text, and a refusal as the Rust's error text.
+use export::Tag;
+use export::Written;
+use export::WrittenTags;
+ghost use mathlib.Core.Path.{_≡_};
+ghost use lib.ListN.{length};
+ghost use Rattle.model.specs.Questions.{numberOf, valueOr};
+ghost use Rattle.export.specs.Answers.{sizeGiven, tagSize};
+ghost use Rattle.model.specs.Written.{gfaWritten, gafWritten, messageWritten, outputWith, tagsWritten, outputWithTag};
+ghost use Rattle.graph_name.specs.Values.{isPresent, lengthOf, orZero};
+
+// The GFA header lines.
+#[no_mangle]
+pub extern "C" fn graph_name_to_gfa_header_lines(
+    buf: &[u8],
+    out: &mut [u8],
+    written: &mut u64,
+) -> u32
+    ensures { λ r. ⌜ r ≡ numberOf (gfaWritten (now (buf .entry)) (length (now (out .entry)))) ⌝ }
+    ensures { λ _. ⌜ now (out .exit) ≡ outputWith (gfaWritten (now (buf .entry)) (length (now (out .entry)))) (now (out .entry)) ⌝ }
+    ensures { λ _. ⌜ now (written .exit) ≡ valueOr (now (written .entry)) length (gfaWritten (now (buf .entry)) (length (now (out .entry)))) ⌝ }
+{
+    size_out(export::to_gfa_header_lines(buf, out), written)
+}
+
+// The GAF header lines.
+#[no_mangle]
+pub extern "C" fn graph_name_to_gaf_header_lines(
+    buf: &[u8],
+    out: &mut [u8],
+    written: &mut u64,
+) -> u32
+    ensures { λ r. ⌜ r ≡ numberOf (gafWritten (now (buf .entry)) (length (now (out .entry)))) ⌝ }
+    ensures { λ _. ⌜ now (out .exit) ≡ outputWith (gafWritten (now (buf .entry)) (length (now (out .entry)))) (now (out .entry)) ⌝ }
+    ensures { λ _. ⌜ now (written .exit) ≡ valueOr (now (written .entry)) length (gafWritten (now (buf .entry)) (length (now (out .entry)))) ⌝ }
+{
+    size_out(export::to_gaf_header_lines(buf, out), written)
+}
+
+// The error text of a refusal: its number, its line and the part that it quotes.
+#[no_mangle]
+pub extern "C" fn graph_name_error_message(
+    number: u32,
+    line: u64,
+    part: &[u8],
+    out: &mut [u8],
+    written: &mut u64,
+) -> u32
+    ensures { λ r. ⌜ r ≡ numberOf (messageWritten number line (now (part .entry)) (length (now (out .entry)))) ⌝ }
+    ensures { λ _. ⌜ now (out .exit) ≡ outputWith (messageWritten number line (now (part .entry)) (length (now (out .entry)))) (now (out .entry)) ⌝ }
+    ensures { λ _. ⌜ now (written .exit) ≡ valueOr (now (written .entry)) length (messageWritten number line (now (part .entry)) (length (now (out .entry)))) ⌝ }
+{
+    size_out(
+        export::error_message(number as usize, line as usize, part, out),
+        written,
+    )
+}
+
+// Hands out how many bytes were written.
+fn size_out(given: Written, written: &mut u64) -> u32
+    ensures { λ r. ⌜ r ≡ numberOf (sizeGiven given) ⌝ }
+    ensures { λ _. ⌜ now (written .exit) ≡ valueOr (now (written .entry)) (λ n. n) (sizeGiven given) ⌝ }
+{
+    match given {
+        Written::Refused(n) => n,
+        Written::Wrote(n) => {
+            *written = n as u64;
+            0
+        }
+    }
+}
+
+// The values of the three tags, each with an output of its own: whether there is one, and how many bytes were written.
+#[no_mangle]
+pub extern "C" fn graph_name_set_tags(
+    buf: &[u8],
+    name: &mut [u8],
+    subgraph: &mut [u8],
+    translation: &mut [u8],
+    has_name: &mut u64,
+    name_length: &mut u64,
+    has_subgraph: &mut u64,
+    subgraph_length: &mut u64,
+    has_translation: &mut u64,
+    translation_length: &mut u64,
+) -> u32
+    ensures { λ r. ⌜ r ≡ numberOf (tagsWritten (now (buf .entry)) (length (now (name .entry))) (length (now (subgraph .entry))) (length (now (translation .entry)))) ⌝ }
+    ensures { λ _. ⌜ now (name .exit) ≡ outputWithTag (λ v. v .name) (tagsWritten (now (buf .entry)) (length (now (name .entry))) (length (now (subgraph .entry))) (length (now (translation .entry)))) (now (name .entry)) ⌝ }
+    ensures { λ _. ⌜ now (subgraph .exit) ≡ outputWithTag (λ v. v .subgraph) (tagsWritten (now (buf .entry)) (length (now (name .entry))) (length (now (subgraph .entry))) (length (now (translation .entry)))) (now (subgraph .entry)) ⌝ }
+    ensures { λ _. ⌜ now (translation .exit) ≡ outputWithTag (λ v. v .translation) (tagsWritten (now (buf .entry)) (length (now (name .entry))) (length (now (subgraph .entry))) (length (now (translation .entry)))) (now (translation .entry)) ⌝ }
+    ensures { λ _. ⌜ now («has_name» .exit) ≡ valueOr (now («has_name» .entry)) (λ v. isPresent (v .name)) (tagsWritten (now (buf .entry)) (length (now (name .entry))) (length (now (subgraph .entry))) (length (now (translation .entry)))) ⌝ }
+    ensures { λ _. ⌜ now («name_length» .exit) ≡ valueOr (now («name_length» .entry)) (λ v. lengthOf (v .name)) (tagsWritten (now (buf .entry)) (length (now (name .entry))) (length (now (subgraph .entry))) (length (now (translation .entry)))) ⌝ }
+    ensures { λ _. ⌜ now («has_subgraph» .exit) ≡ valueOr (now («has_subgraph» .entry)) (λ v. isPresent (v .subgraph)) (tagsWritten (now (buf .entry)) (length (now (name .entry))) (length (now (subgraph .entry))) (length (now (translation .entry)))) ⌝ }
+    ensures { λ _. ⌜ now («subgraph_length» .exit) ≡ valueOr (now («subgraph_length» .entry)) (λ v. lengthOf (v .subgraph)) (tagsWritten (now (buf .entry)) (length (now (name .entry))) (length (now (subgraph .entry))) (length (now (translation .entry)))) ⌝ }
+    ensures { λ _. ⌜ now («has_translation» .exit) ≡ valueOr (now («has_translation» .entry)) (λ v. isPresent (v .translation)) (tagsWritten (now (buf .entry)) (length (now (name .entry))) (length (now (subgraph .entry))) (length (now (translation .entry)))) ⌝ }
+    ensures { λ _. ⌜ now («translation_length» .exit) ≡ valueOr (now («translation_length» .entry)) (λ v. lengthOf (v .translation)) (tagsWritten (now (buf .entry)) (length (now (name .entry))) (length (now (subgraph .entry))) (length (now (translation .entry)))) ⌝ }
+{
+    match export::set_tags(buf, name, subgraph, translation) {
+        WrittenTags::Refused(n) => n,
+        WrittenTags::Are {
+            name: n,
+            subgraph: s,
+            translation: t,
+        } => {
+            tag_out(n, has_name, name_length);
+            tag_out(s, has_subgraph, subgraph_length);
+            tag_out(t, has_translation, translation_length);
+            0
+        }
+    }
+}
+
+// Hands out one tag: whether there is one, and how many bytes its value has.
+fn tag_out(tag: Tag, has: &mut u64, size: &mut u64)
+    ensures { λ _. ⌜ now (has .exit) ≡ isPresent (tagSize tag) ⌝ }
+    ensures { λ _. ⌜ now (size .exit) ≡ orZero (λ n. n) (tagSize tag) ⌝ }
+{
+    match tag {
+        Tag::Absent => {
+            *has = 0;
+            *size = 0;
+        }
+        Tag::Size(n) => {
+            *has = 1;
+            *size = n as u64;
+        }
+    }
+}
