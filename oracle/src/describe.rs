@@ -1,0 +1,66 @@
+//! Comparisons of the description of a relationship with the Rust's text.
+
+use crate::encoder::{decode, encode};
+use crate::generate::{self, Random};
+use crate::graph::{narrow, wide};
+use crate::paths::large_graphs;
+use crate::reading::{each_room, text_outcome};
+use crate::records::{each_two, verdict_of_two};
+use crate::report::{unwritten, Hex, Input, Report, UNWRITTEN};
+
+/// The greatest length of a description of a graph.
+const LONGEST_DESC: usize = 4096;
+
+/// Compares `describe_relationship`.
+pub fn describe_relationship(report: &mut Report, rounds: usize) {
+    for (first, second) in large_graphs() {
+        let (record, other) = (encode(&first), encode(&second));
+        describe(report, &record, &other, b"p", b"q");
+        describe(report, &other, &record, b"", b"the other");
+    }
+    each_two(rounds / 4, 50, |random, record, other| {
+        let (self_desc, other_desc) = (desc(random), desc(random));
+        describe(report, record, other, &self_desc, &other_desc);
+    });
+}
+
+/// A description of a graph: mostly a name, sometimes of the greatest length or over it.
+fn desc(random: &mut Random) -> Vec<u8> {
+    match random.below(12) {
+        0 => vec![b'd'; LONGEST_DESC],
+        1 => vec![b'd'; LONGEST_DESC + 1],
+        _ => generate::name(random),
+    }
+}
+
+/// The refusal before the output's room is looked at: 15, 16, 18 or 0.
+fn refusal(record: &[u8], other: &[u8], self_desc: &[u8], other_desc: &[u8]) -> u32 {
+    match verdict_of_two(record, other) {
+        0 if self_desc.len().max(other_desc.len()) > LONGEST_DESC => 18,
+        number => number,
+    }
+}
+
+/// The Rust's description of two records.
+fn rust_description(record: &[u8], other: &[u8], self_desc: &[u8], other_desc: &[u8]) -> Vec<u8> {
+    let (first, second) = (decode(record).expect("a record").to_rust(), decode(other).expect("a record").to_rust());
+    narrow(&first.describe_relationship(&second, &wide(self_desc), &wide(other_desc)))
+}
+
+/// Compares a description in outputs of several rooms.
+fn describe(report: &mut Report, record: &[u8], other: &[u8], self_desc: &[u8], other_desc: &[u8]) {
+    let refused = refusal(record, other, self_desc, other_desc);
+    let text = if refused == 0 { rust_description(record, other, self_desc, other_desc) } else { Vec::new() };
+    each_room(text.len(), |room| {
+        let expected = if refused == 0 { text_outcome(&text, room) } else { (refused, unwritten(room), UNWRITTEN) };
+        let mut out = unwritten(room);
+        let mut written = UNWRITTEN;
+        let number = graph_name::describe_relationship(record, other, self_desc, other_desc, &mut out, &mut written);
+        let inputs = [
+            ("record", Input::Bytes(record)), ("other", Input::Bytes(other)), ("self_desc", Input::Bytes(self_desc)),
+            ("other_desc", Input::Bytes(other_desc)), ("room", Input::Number(room as u64)),
+        ];
+        let got = (number, Hex(&out), written);
+        report.compare("describe_relationship", &inputs, &(expected.0, Hex(&expected.1), expected.2), &got);
+    });
+}
