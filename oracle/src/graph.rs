@@ -63,8 +63,10 @@ impl Graph {
     /// All names in use, each once, ascending.
     pub fn names(&self) -> Vec<&[u8]> {
         let ends = self.subgraph.iter().chain(&self.translation).flat_map(|(from, to)| [from, to]);
-        let all: BTreeSet<&[u8]> = self.name.iter().chain(ends).map(|name| name.as_slice()).collect();
-        all.into_iter().collect()
+        let mut all: Vec<&[u8]> = self.name.iter().chain(ends).map(|name| name.as_slice()).collect();
+        all.sort();
+        all.dedup();
+        all
     }
 
     /// The graph that a Rust value means, its strings taken as they are.
