@@ -3,10 +3,10 @@
 use crate::encoder::{decode, encode};
 use crate::generate::{self, Random};
 use crate::graph::{narrow, wide};
+use crate::outputs::{compare_texts, each_room, refused_outcome, text_outcome, unwritten, UNWRITTEN};
 use crate::paths::large_graphs;
-use crate::reading::{each_room, text_outcome};
 use crate::records::{each_two, verdict_of_two};
-use crate::report::{unwritten, Hex, Input, Report, UNWRITTEN};
+use crate::report::{Input, Report};
 
 /// The greatest length of a description of a graph.
 const LONGEST_DESC: usize = 4096;
@@ -52,7 +52,7 @@ fn describe(report: &mut Report, record: &[u8], other: &[u8], self_desc: &[u8], 
     let refused = refusal(record, other, self_desc, other_desc);
     let text = if refused == 0 { rust_description(record, other, self_desc, other_desc) } else { Vec::new() };
     each_room(text.len(), |room| {
-        let expected = if refused == 0 { text_outcome(&text, room) } else { (refused, unwritten(room), UNWRITTEN) };
+        let expected = if refused == 0 { text_outcome(&text, room) } else { refused_outcome(refused, room) };
         let mut out = unwritten(room);
         let mut written = UNWRITTEN;
         let number = graph_name::describe_relationship(record, other, self_desc, other_desc, &mut out, &mut written);
@@ -60,7 +60,6 @@ fn describe(report: &mut Report, record: &[u8], other: &[u8], self_desc: &[u8], 
             ("record", Input::Bytes(record)), ("other", Input::Bytes(other)), ("self_desc", Input::Bytes(self_desc)),
             ("other_desc", Input::Bytes(other_desc)), ("room", Input::Number(room as u64)),
         ];
-        let got = (number, Hex(&out), written);
-        report.compare("describe_relationship", &inputs, &(expected.0, Hex(&expected.1), expected.2), &got);
+        compare_texts(report, "describe_relationship", &inputs, &expected, &(number, out, written));
     });
 }

@@ -5,15 +5,16 @@ use crate::generate::{self, Random};
 use crate::graph::{wide, Graph, Name};
 use crate::limits;
 use crate::name::GraphName;
+use crate::outputs::unwritten;
 use crate::records::{each_two, verdict_of_two};
-use crate::report::{unwritten, Hex, Input, Report};
+use crate::report::{Hex, Input, Report};
 
 /// A call's result and the buffer after it.
 type Outcome = (u32, Vec<u8>);
 
 /// Compares two outcomes.
 fn compare(report: &mut Report, entry: &'static str, inputs: &[(&str, Input)], expected: &Outcome, got: &Outcome) {
-    report.compare(entry, inputs, &(expected.0, Hex(&expected.1)), &(got.0, Hex(&got.1)));
+    report.compare(entry, inputs, (expected.0, Hex(&expected.1)), (got.0, Hex(&got.1)));
 }
 
 /// The outcome of a change that gives this Rust value: its record, or a refusal by size that leaves the buffer as it is.
@@ -148,28 +149,38 @@ fn merges(report: &mut Report, rounds: usize, operation: &Merge) {
     let mut graphs = limits::graphs();
     graphs.push(generate::full_graph(&mut Random::new(2), b'f'));
     graphs.push(generate::full_graph(&mut Random::new(3), b'g'));
-    let records: Vec<Vec<u8>> = graphs.iter().map(encode).collect();
-    for record in &records {
-        for other in &records {
-            merge(report, operation, record, other);
+    let both: Vec<(GraphName, Vec<u8>)> = graphs.iter().map(|graph| (graph.to_rust(), encode(graph))).collect();
+    for (value, record) in &both {
+        for (other_value, other) in &both {
+            let expected = merged(operation, value, record, other_value);
+            merge(report, operation, record, other, expected);
         }
     }
     each_two(rounds / 2, 12, |_, record, other| {
-        let after = merge(report, operation, record, other);
-        merge(report, operation, other, &after);
+        let after = merge_buffers(report, operation, record, other);
+        merge_buffers(report, operation, other, &after);
     });
 }
 
-/// Compares one operation with another graph. The result is the buffer expected after it.
-fn merge(report: &mut Report, operation: &Merge, buffer: &[u8], other: &[u8]) -> Vec<u8> {
+/// The outcome of an operation on a record of one Rust value with the other.
+fn merged(operation: &Merge, value: &GraphName, record: &[u8], other: &GraphName) -> Outcome {
+    let mut after = value.clone();
+    (operation.method)(&mut after, other);
+    outcome(record, &after)
+}
+
+/// Compares one operation with another graph on buffers of any kind. The result is the buffer expected after it.
+fn merge_buffers(report: &mut Report, operation: &Merge, buffer: &[u8], other: &[u8]) -> Vec<u8> {
+    let value = |record: &[u8]| decode(record).expect("a record").to_rust();
     let expected = match verdict_of_two(buffer, other) {
-        0 => {
-            let mut value = decode(buffer).expect("a record").to_rust();
-            (operation.method)(&mut value, &decode(other).expect("a record").to_rust());
-            outcome(buffer, &value)
-        }
+        0 => merged(operation, &value(buffer), buffer, &value(other)),
         number => (number, buffer.to_vec()),
     };
+    merge(report, operation, buffer, other, expected)
+}
+
+/// Compares one operation with another graph with what is expected of it. The result is the buffer expected after it.
+fn merge(report: &mut Report, operation: &Merge, buffer: &[u8], other: &[u8], expected: Outcome) -> Vec<u8> {
     let mut record = buffer.to_vec();
     let number = (operation.call)(&mut record, other);
     let inputs = [("record", Input::Bytes(buffer)), ("other", Input::Bytes(other))];

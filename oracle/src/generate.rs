@@ -117,10 +117,15 @@ pub fn numbered(mark: u8, number: usize, length: usize) -> Name {
     name
 }
 
+/// So many names of this mark that together have 22,520 bytes.
+pub fn filling_names(mark: u8, count: usize) -> Vec<Name> {
+    let length = |number: usize| BODIES / count + usize::from(number < BODIES % count);
+    (0..count).map(|number| numbered(mark, number, length(number))).collect()
+}
+
 /// Names of this mark that fill a record: 512 of them with 22,520 bytes.
 pub fn full_names(mark: u8) -> Vec<Name> {
-    let length = |number: usize| BODIES / NAMES + usize::from(number < BODIES % NAMES);
-    (0..NAMES).map(|number| numbered(mark, number, length(number))).collect()
+    filling_names(mark, NAMES)
 }
 
 /// A graph that fills a record: each name of a full list leads to the next, and random pairs make 1,024 of each kind.

@@ -18,6 +18,7 @@ mod model_strict;
 #[allow(dead_code)]
 #[path = "../../../shared/docs/src/src/name.rs"]
 mod name;
+mod outputs;
 mod paths;
 mod reading;
 mod records;
@@ -72,16 +73,22 @@ fn entries(rounds: usize) -> Report {
     report
 }
 
-/// Checks the models, and unless `--self` is given compares the entries. Fails on a mismatch.
+/// Checks the models, and unless they alone are asked for compares the entries. The result is whether all agreed.
+fn run(rounds: usize, models_alone: bool) -> bool {
+    let mut models = Report::default();
+    self_check::run(&mut models, rounds);
+    let agreed = models.print("models against the Rust");
+    agreed & (models_alone || entries(rounds).print("library against the Rust and the models"))
+}
+
+/// Runs the comparisons on a stack of 640 KB, since no entry is to take more than 512 KB. Fails on a mismatch.
 fn main() -> ExitCode {
     let words: Vec<String> = std::env::args().skip(1).collect();
     let thousands = words.iter().find_map(|word| word.parse::<usize>().ok()).unwrap_or(1);
-    let rounds = 1000 * thousands;
-    let mut models = Report::default();
-    self_check::run(&mut models, rounds);
-    let mut agreed = models.print("models against the Rust");
-    if !words.iter().any(|word| word == "--self") {
-        agreed &= entries(rounds).print("library against the Rust and the models");
+    let models_alone = words.iter().any(|word| word == "--self");
+    let thread = std::thread::Builder::new().stack_size(640 * 1024).spawn(move || run(1000 * thousands, models_alone));
+    match thread.expect("a thread").join() {
+        Ok(true) => ExitCode::SUCCESS,
+        _ => ExitCode::FAILURE,
     }
-    if agreed { ExitCode::SUCCESS } else { ExitCode::FAILURE }
 }

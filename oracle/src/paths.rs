@@ -1,12 +1,13 @@
 //! Comparisons of the two questions: the answers with the Rust's, and the path's bytes with those of the search in `model_paths`.
 
 use crate::encoder::{decode, encode, BODIES, LONGEST, NAMES, PAIRS};
-use crate::generate::{chain, full_graph, full_names, numbered, Random};
+use crate::generate::{chain, filling_names, full_graph, full_names, numbered, Random};
 use crate::graph::{Graph, Kind, Name, KINDS};
 use crate::model_paths::{best_path, path_bytes};
 use crate::name::GraphName;
+use crate::outputs::{compare_texts, filled, refused_outcome, unwritten, UNWRITTEN};
 use crate::records::{each_two, verdict_of_two};
-use crate::report::{filled, unwritten, Hex, Input, Report, UNWRITTEN};
+use crate::report::{Hex, Input, Report};
 
 /// The Rust's method and the library's entry of a question.
 struct Question {
@@ -53,12 +54,12 @@ fn long_path(names: &[Name], cut: usize, kind: impl Fn(usize) -> Kind + Copy) ->
     (first, second)
 }
 
-/// The names of the longest path: 512 of one record and 511 more of the other, with the shared one empty or not.
-fn longest_path_names(shared: &[u8]) -> Vec<Name> {
-    let mut names = full_names(b'p');
-    names[NAMES - 1] = shared.to_vec();
-    names.extend(full_names(b'q').into_iter().skip(1));
-    names
+/// The names of the longest paths: 511 that fill one record, one that both records have, and 511 that fill the other. With the shared one
+/// empty, the bytes of the path are the most that there can be.
+fn longest_path_names() -> [Vec<Name>; 2] {
+    let with_empty = [filling_names(b'p', NAMES - 1), vec![Vec::new()], filling_names(b'q', NAMES - 1)].concat();
+    let with_another = [full_names(b'p'), full_names(b'q')[1..].to_vec()].concat();
+    [with_empty, with_another]
 }
 
 /// A graph of 32 names with all 1,024 pairs of each kind.
@@ -97,18 +98,17 @@ fn layers(random: &mut Random, width: usize, depth: usize) -> (Graph, Graph) {
 pub fn large_graphs() -> Vec<(Graph, Graph)> {
     let mut random = Random::new(41);
     let mut list = Vec::new();
-    for shared in [&b""[..], b"p00511"] {
-        let names = longest_path_names(shared);
+    for names in longest_path_names() {
         list.push(long_path(&names, NAMES - 1, |_| Kind::Subgraph));
         list.push(long_path(&names, NAMES - 1, |place| KINDS[place % 2]));
     }
     let long: Vec<Name> = (0..BODIES / LONGEST).map(|number| numbered(b'l', number, LONGEST)).collect();
     list.push(long_path(&long, 40, |place| KINDS[usize::from(place == 70)]));
-    let mut full = full_graph(&mut random, b'g');
-    list.push((full_graph(&mut random, b'f'), full.clone()));
-    full.name = Some(full_names(b'f')[300].clone());
-    list.push((full_graph(&mut random, b'f'), full_graph(&mut random, b'f')));
-    list.push((full_graph(&mut random, b'f'), Graph { name: Some(full_names(b'f')[300].clone()), ..Graph::default() }));
+    let full = full_graph(&mut random, b'f');
+    let other = full_names(b'f')[300].clone();
+    list.push((full.clone(), full_graph(&mut random, b'g')));
+    list.push((full.clone(), Graph { name: Some(other.clone()), ..full_graph(&mut random, b'f') }));
+    list.push((full, Graph::named(&other)));
     list.push((dense(b'd', 0), dense(b'd', 31)));
     list.push((dense(b'd', 5), dense(b'e', 5)));
     for (width, depth) in [(2, 12), (3, 9), (6, 12), (8, 5), (9, 9)] {
@@ -124,16 +124,16 @@ fn ask(report: &mut Report, question: &Question, record: &[u8], other: &[u8]) {
     let length = answer.as_ref().map_or(16, |bytes| bytes.len());
     for room in [0, length.saturating_sub(1), length, length + 7] {
         let expected = match &answer {
-            _ if refused != 0 => (refused, unwritten(room), UNWRITTEN),
+            _ if refused != 0 => refused_outcome(refused, room),
             None => (0, unwritten(room), 0),
-            Some(bytes) if bytes.len() > room => (17, unwritten(room), UNWRITTEN),
+            Some(bytes) if bytes.len() > room => refused_outcome(17, room),
             Some(bytes) => (0, filled(bytes, room), 1),
         };
         let mut out = unwritten(room);
         let mut answer = UNWRITTEN;
         let number = (question.call)(record, other, &mut out, &mut answer);
         let inputs = [("record", Input::Bytes(record)), ("other", Input::Bytes(other)), ("room", Input::Number(room as u64))];
-        report.compare(question.entry, &inputs, &(expected.0, Hex(&expected.1), expected.2), &(number, Hex(&out), answer));
+        compare_texts(report, question.entry, &inputs, &expected, &(number, out, answer));
     }
 }
 

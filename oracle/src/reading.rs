@@ -6,7 +6,8 @@ use crate::generate::{self, Random};
 use crate::graph::{Graph, Kind};
 use crate::limits;
 use crate::model_reading::{message, read_header, read_tags, Refusal, TagValues};
-use crate::report::{filled, unwritten, Hex, Input, Inputs, Report, UNWRITTEN};
+use crate::outputs::{compare_texts, each_room, text_outcome, unwritten, UNWRITTEN};
+use crate::report::{Hex, Input, Inputs, Report};
 
 /// Bytes that reach every branch of the reading of header lines.
 const HEADER_BYTES: &[u8] = b"H@RNSGTLZM:,\t\na";
@@ -61,14 +62,14 @@ pub fn each_limit_text(mut call: impl FnMut(&[u8])) {
     call(&[b"H", fields.as_slice(), b"\tx"].concat());
 }
 
-/// The outcome of a reading into a buffer of this length: the result, the three numbers and the buffer.
-fn expected(reading: Result<Graph, Refusal>, length: usize) -> (u32, [u64; 3], Vec<u8>) {
+/// The outcome of a reading into a buffer of this length: the result, and then the three numbers and the buffer.
+fn expected(reading: Result<Graph, Refusal>, length: usize) -> (u32, ([u64; 3], Vec<u8>)) {
     if length != RECORD {
-        return (15, [0; 3], unwritten(length));
+        return (15, ([0; 3], unwritten(length)));
     }
     match reading {
-        Ok(graph) => (0, [0; 3], encode(&graph)),
-        Err(refusal) => (refusal.number, [refusal.line, refusal.start, refusal.length], ZEROS.to_vec()),
+        Ok(graph) => (0, ([0; 3], encode(&graph))),
+        Err(refusal) => (refusal.number, ([refusal.line, refusal.start, refusal.length], ZEROS.to_vec())),
     }
 }
 
@@ -80,8 +81,8 @@ fn compare(
     let mut record = unwritten(length);
     let [mut line, mut start, mut part] = [UNWRITTEN; 3];
     let number = call(&mut record, &mut line, &mut start, &mut part);
-    let expected = expected(reading, length);
-    report.compare(entry, inputs, &(expected.0, expected.1, Hex(&expected.2)), &(number, [line, start, part], Hex(&record)));
+    let (expected, (numbers, buffer)) = expected(reading, length);
+    report.compare(entry, inputs, (expected, (numbers, Hex(&buffer))), (number, ([line, start, part], Hex(&record))));
 }
 
 /// Compares `from_header_lines`.
@@ -198,23 +199,6 @@ fn one_message(report: &mut Report, number: u32, line: u64, part: &[u8], room: u
         ("number", Input::Number(number.into())), ("line", Input::Number(line)), ("part", Input::Bytes(part)),
         ("room", Input::Number(room as u64)),
     ];
-    let expected = text_outcome(&message(number, line, part), room);
-    report.compare("error_message", &inputs, &(expected.0, Hex(&expected.1), expected.2), &(result, Hex(&out), written));
-}
-
-/// Calls a function on the rooms to try for a text of this length: none, one short, just enough and more.
-pub fn each_room(length: usize, mut call: impl FnMut(usize)) {
-    call(0);
-    call(length.saturating_sub(1));
-    call(length);
-    call(length + 5);
-}
-
-/// The outcome of writing a text into an output of this room: the result, the output and the number written.
-pub fn text_outcome(text: &[u8], room: usize) -> (u32, Vec<u8>, u64) {
-    if text.len() > room {
-        (17, unwritten(room), UNWRITTEN)
-    } else {
-        (0, filled(text, room), text.len() as u64)
-    }
+    let outcome = text_outcome(&message(number, line, part), room);
+    compare_texts(report, "error_message", &inputs, &outcome, &(result, out, written));
 }

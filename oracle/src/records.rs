@@ -3,7 +3,8 @@
 use crate::encoder::{decode, encode, verdict, Counts, RECORD};
 use crate::generate::{self, Random};
 use crate::graph::{Graph, Kind, Name};
-use crate::report::{Input, Report, UNWRITTEN};
+use crate::outputs::UNWRITTEN;
+use crate::report::{Input, Report};
 
 /// A result and the numbers written.
 type Answer<const COUNT: usize> = (u32, [u64; COUNT]);
@@ -58,7 +59,7 @@ pub fn counts(report: &mut Report, rounds: usize) {
         let [mut names, mut subgraph, mut translation] = [UNWRITTEN; 3];
         let number = graph_name::counts(buffer, &mut names, &mut subgraph, &mut translation);
         let got = (number, [names, subgraph, translation]);
-        report.compare("counts", &[("record", Input::Bytes(buffer))], &answer(buffer, of_graph), &got);
+        report.compare("counts", &[("record", Input::Bytes(buffer))], answer(buffer, of_graph), got);
     });
 }
 
@@ -72,7 +73,7 @@ pub fn name(report: &mut Report, rounds: usize) {
         let [mut present, mut start, mut length] = [UNWRITTEN; 3];
         let number = graph_name::name(buffer, &mut present, &mut start, &mut length);
         let got = (number, [present, start, length]);
-        report.compare("name", &[("record", Input::Bytes(buffer))], &answer(buffer, of_graph), &got);
+        report.compare("name", &[("record", Input::Bytes(buffer))], answer(buffer, of_graph), got);
     });
 }
 
@@ -101,7 +102,7 @@ pub fn name_at(report: &mut Report, rounds: usize) {
             let number = graph_name::name_at(buffer, place, &mut present, &mut start, &mut length);
             let got = (number, [present, start, length]);
             let inputs = [("record", Input::Bytes(buffer)), ("place", Input::Number(place))];
-            report.compare("name_at", &inputs, &answer(buffer, of_graph), &got);
+            report.compare("name_at", &inputs, answer(buffer, of_graph), got);
         }
     });
 }
@@ -146,7 +147,7 @@ fn pair_at(report: &mut Report, rounds: usize, entry: &'static str, kind: Kind, 
             let [present, from_start, from_length, to_start, to_length] = &mut got;
             let number = call(buffer, place, present, from_start, from_length, to_start, to_length);
             let inputs = [("record", Input::Bytes(buffer)), ("place", Input::Number(place))];
-            report.compare(entry, &inputs, &answer(buffer, of_graph), &(number, got));
+            report.compare(entry, &inputs, answer(buffer, of_graph), (number, got));
         }
     });
 }
@@ -185,7 +186,7 @@ pub fn is_same(report: &mut Report, rounds: usize) {
         let mut answer = UNWRITTEN;
         let number = graph_name::is_same(record, other, &mut answer);
         let inputs = [("record", Input::Bytes(record)), ("other", Input::Bytes(other))];
-        report.compare("is_same", &inputs, &expected, &(number, [answer]));
+        report.compare("is_same", &inputs, expected, (number, [answer]));
     });
 }
 

@@ -1,25 +1,7 @@
 //! Counts of comparisons for each entry, and for each entry with a mismatch the one with the smallest input.
 
-use std::collections::BTreeMap;
+use std::collections::{BTreeMap, BTreeSet};
 use std::fmt::{Debug, Formatter, Result};
-
-/// The value that an output number holds before a call.
-pub const UNWRITTEN: u64 = 0x5A5A_5A5A_5A5A_5A5A;
-
-/// The byte that output buffers are filled with before a call.
-const FILL: u8 = 0xA5;
-
-/// An output buffer of this length before a call.
-pub fn unwritten(length: usize) -> Vec<u8> {
-    vec![FILL; length]
-}
-
-/// An output buffer of this length that holds a text from its start, the bytes past it as before the call.
-pub fn filled(text: &[u8], length: usize) -> Vec<u8> {
-    let mut buffer = unwritten(length);
-    buffer[..text.len()].copy_from_slice(text);
-    buffer
-}
 
 /// Bytes that are shown in hexadecimal, a run of one byte at the end as that byte and its count.
 #[derive(PartialEq, Eq)]
@@ -68,11 +50,12 @@ fn show(inputs: &Inputs, expected: &dyn Debug, got: &dyn Debug) -> String {
     text + &format!("    expected: {expected:?}\n    got:      {got:?}\n")
 }
 
-/// What is known of one entry.
+/// What is known of one entry; `numbers` are the results that were expected of it.
 #[derive(Default)]
 struct Entry {
     compared: u64,
     mismatches: u64,
+    numbers: BTreeSet<u32>,
     smallest: Option<(usize, String)>,
 }
 
@@ -84,8 +67,14 @@ pub struct Report {
 }
 
 impl Report {
+    /// Counts a comparison of what a call gives: its result and all else.
+    pub fn compare<T: PartialEq + Debug>(&mut self, name: &'static str, inputs: &Inputs, expected: (u32, T), got: (u32, T)) {
+        self.entries.entry(name).or_default().numbers.insert(expected.0);
+        self.check(name, inputs, &expected, &got);
+    }
+
     /// Counts a comparison, and keeps it if it is the smallest mismatch of its entry.
-    pub fn compare<T: PartialEq + Debug>(&mut self, name: &'static str, inputs: &Inputs, expected: &T, got: &T) {
+    pub fn check<T: PartialEq + Debug>(&mut self, name: &'static str, inputs: &Inputs, expected: &T, got: &T) {
         let entry = self.entries.entry(name).or_default();
         entry.compared += 1;
         if expected == got {
@@ -107,7 +96,9 @@ impl Report {
     /// Prints the counts, the mismatches and the entries not compared, under a title. The result is whether every comparison agreed.
     pub fn print(&self, title: &str) -> bool {
         for (name, entry) in &self.entries {
-            println!("{name:<24} {:>10} compared, {} mismatches", entry.compared, entry.mismatches);
+            let numbers: String = entry.numbers.iter().map(|number| format!(" {number}")).collect();
+            let label = if numbers.is_empty() { "" } else { "; numbers" };
+            println!("{name:<24}{:>10} compared, {} mismatches{label}{numbers}", entry.compared, entry.mismatches);
             if let Some((_, text)) = &entry.smallest {
                 print!("  the smallest:\n{text}");
             }

@@ -30,14 +30,14 @@ pub fn run(report: &mut Report, rounds: usize) {
 fn layout(report: &mut Report, rounds: usize) {
     for graph in limits::graphs() {
         let back = (sizes(&graph), decode(&encode(&graph)), Graph::of_wide(&graph.to_rust()));
-        report.compare("model: layout", &[], &(0, Some(graph.clone()), graph), &back);
+        report.check("model: layout", &[], &(0, Some(graph.clone()), graph), &back);
     }
     each_buffer(rounds, 70, |random, buffer| {
         let graph = generate::graph(random);
         let back = (sizes(&graph), decode(&encode(&graph)), Graph::of_wide(&graph.to_rust()));
-        report.compare("model: layout", &[("record", Input::Bytes(&encode(&graph)))], &(0, Some(graph.clone()), graph), &back);
+        report.check("model: layout", &[("record", Input::Bytes(&encode(&graph)))], &(0, Some(graph.clone()), graph), &back);
         let expected = if buffer.len() != RECORD { 15 } else if is_encoding(buffer) { 0 } else { 16 };
-        report.compare("model: layout", &[("record", Input::Bytes(buffer))], &expected, &verdict(buffer));
+        report.check("model: layout", &[("record", Input::Bytes(buffer))], &expected, &verdict(buffer));
     });
 }
 
@@ -80,7 +80,7 @@ fn against_rust(
         Ok(graph) => Ok(graph),
     };
     let rust = rust.map(|value| Graph::of_plain(&value)).map_err(String::into_bytes);
-    report.compare(entry, inputs, &rust, &model);
+    report.check(entry, inputs, &rust, &model);
 }
 
 /// Checks the reading of a header text that is valid UTF-8.
@@ -125,7 +125,7 @@ fn paths(report: &mut Report, rounds: usize) {
         for full in [false, true] {
             let expected = enumerated(&first, &second, full);
             let inputs = [("record", Input::Bytes(&record)), ("other", Input::Bytes(&other))];
-            report.compare("model: paths", &inputs, &expected, &best_path(&first, &second, full));
+            report.check("model: paths", &inputs, &expected, &best_path(&first, &second, full));
         }
     }
 }
@@ -137,9 +137,9 @@ fn path(report: &mut Report, first: &Graph, second: &Graph) {
     let (one, two) = (first.to_rust(), second.to_rust());
     let rust = [one.is_subgraph_of(&two), one.translates_to(&two)];
     let model = [false, true].map(|full| best_path(first, second, full).is_some());
-    report.compare("model: paths", &inputs, &rust, &model);
+    report.check("model: paths", &inputs, &rust, &model);
     let text = narrow(&one.describe_relationship(&two, &wide(b"p"), &wide(b"q\xff")));
-    report.compare("model: descriptions", &inputs, &Hex(&text), &Hex(&description(first, second, b"p", b"q\xff")));
+    report.check("model: descriptions", &inputs, &Hex(&text), &Hex(&description(first, second, b"p", b"q\xff")));
 }
 
 /// Checks the matcher of expressions, and the strict reading on lines with known answers.
@@ -148,7 +148,7 @@ fn strict(report: &mut Report) {
     let fine: [&[u8]; 7] = [b"1", b"-1", b"+.5", b"1.5", b"12", b"1e5", b"1.5E-10"];
     let faulty: [&[u8]; 8] = [b"", b"+", b"1.", b".", b"1e", b"1e+", b"--1", b"1.5.5"];
     for (text, expected) in fine.iter().map(|text| (text, true)).chain(faulty.iter().map(|text| (text, false))) {
-        report.compare("model: strict", &[("value", Input::Bytes(text))], &expected, &number.matches(text));
+        report.check("model: strict", &[("value", Input::Bytes(text))], &expected, &number.matches(text));
     }
     let grammar = Grammar::new();
     let lines: [(&[u8], u64); 12] = [
@@ -156,7 +156,7 @@ fn strict(report: &mut Report) {
         (b"H\tS2:Z:a", 2), (b"@RN\ta", 1), (b"H\tab:B:c,1,2", 0), (b"H\tab:B:c", 2), (b"H\tab:Z:a\n", 2),
     ];
     for (line, expected) in lines {
-        report.compare("model: strict", &[("line", Input::Bytes(line))], &expected, &grammar.check(line));
+        report.check("model: strict", &[("line", Input::Bytes(line))], &expected, &grammar.check(line));
     }
     assert!(Kind::Subgraph < Kind::Translation, "the order of steps");
 }

@@ -27,7 +27,7 @@ const LINE_PARTS: [&[u8]; 22] = [
 pub fn check_strict(report: &mut Report, rounds: usize) {
     let grammar = Grammar::new();
     let mut check = |line: &[u8]| {
-        report.compare("check_strict", &[("line", Input::Bytes(line))], &grammar.check(line), &graph_name::check_strict(line));
+        report.check("check_strict", &[("line", Input::Bytes(line))], &grammar.check(line), &graph_name::check_strict(line));
     };
     each_value(rounds, &mut check);
     each_byte(&mut check);

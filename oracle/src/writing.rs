@@ -5,9 +5,9 @@ use crate::generate::Random;
 use crate::graph::narrow;
 use crate::limits;
 use crate::name::GraphName;
-use crate::reading::{each_room, text_outcome};
+use crate::outputs::{compare_texts, each_room, filled, refused_outcome, text_outcome, unwritten, UNWRITTEN};
 use crate::records::each_buffer;
-use crate::report::{filled, unwritten, Hex, Input, Report, UNWRITTEN};
+use crate::report::{Hex, Input, Report};
 use crate::Tags;
 
 /// The Rust's method and the library's entry of a writer of header lines.
@@ -50,12 +50,12 @@ fn lines_of(report: &mut Report, writer: &Writer, buffer: &[u8]) {
     let lines = if refused == 0 { (writer.method)(&rust_value(buffer)) } else { Vec::new() };
     let text: Vec<u8> = lines.iter().flat_map(|line| [narrow(line), vec![b'\n']].concat()).collect();
     each_room(text.len(), |room| {
-        let expected = if refused == 0 { text_outcome(&text, room) } else { (refused, unwritten(room), UNWRITTEN) };
+        let expected = if refused == 0 { text_outcome(&text, room) } else { refused_outcome(refused, room) };
         let mut out = unwritten(room);
         let mut written = UNWRITTEN;
         let number = (writer.call)(buffer, &mut out, &mut written);
         let inputs = [("record", Input::Bytes(buffer)), ("room", Input::Number(room as u64))];
-        report.compare(writer.entry, &inputs, &(expected.0, Hex(&expected.1), expected.2), &(number, Hex(&out), written));
+        compare_texts(report, writer.entry, &inputs, &expected, &(number, out, written));
     });
 }
 
@@ -123,6 +123,6 @@ fn tags_in(report: &mut Report, buffer: &[u8], refused: u32, values: &[Option<Ve
         ("record", Input::Bytes(buffer)), ("room for the name", Input::Number(rooms[0] as u64)),
         ("room for subgraphs", Input::Number(rooms[1] as u64)), ("room for translations", Input::Number(rooms[2] as u64)),
     ];
-    let got = (number, [Hex(&name), Hex(&subgraph), Hex(&translation)], numbers);
-    report.compare("set_tags", &inputs, &(expected.0, expected.1.each_ref().map(|out| Hex(out)), expected.2), &got);
+    let got = (number, ([Hex(&name), Hex(&subgraph), Hex(&translation)], numbers));
+    report.compare("set_tags", &inputs, (expected.0, (expected.1.each_ref().map(|out| Hex(out)), expected.2)), got);
 }
