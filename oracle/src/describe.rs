@@ -1,11 +1,11 @@
 //! Comparisons of the description of a relationship with the Rust's text.
 
-use crate::encoder::{decode, encode};
+use crate::encoder::{decode_two, encode};
 use crate::generate::{self, Random};
 use crate::graph::{narrow, wide};
-use crate::outputs::{compare_texts, each_room, refused_outcome, text_outcome, unwritten, UNWRITTEN};
+use crate::outputs::{compare_texts, each_room, text_outcome, unwritten, UNWRITTEN};
 use crate::paths::large_graphs;
-use crate::records::{each_two, verdict_of_two};
+use crate::records::each_two;
 use crate::report::{Input, Report};
 
 /// The greatest length of a description of a graph.
@@ -33,26 +33,20 @@ fn desc(random: &mut Random) -> Vec<u8> {
     }
 }
 
-/// The refusal before the output's room is looked at: 15, 16, 18 or 0.
-fn refusal(record: &[u8], other: &[u8], self_desc: &[u8], other_desc: &[u8]) -> u32 {
-    match verdict_of_two(record, other) {
-        0 if self_desc.len().max(other_desc.len()) > LONGEST_DESC => 18,
-        number => number,
+/// The Rust's description of two buffers, or the refusal before the output's room is looked at: 15, 16 or 18.
+fn expected_text(record: &[u8], other: &[u8], self_desc: &[u8], other_desc: &[u8]) -> Result<Vec<u8>, u32> {
+    let (first, second) = decode_two(record, other)?;
+    if self_desc.len() > LONGEST_DESC || other_desc.len() > LONGEST_DESC {
+        return Err(18);
     }
-}
-
-/// The Rust's description of two records.
-fn rust_description(record: &[u8], other: &[u8], self_desc: &[u8], other_desc: &[u8]) -> Vec<u8> {
-    let (first, second) = (decode(record).expect("a record").to_rust(), decode(other).expect("a record").to_rust());
-    narrow(&first.describe_relationship(&second, &wide(self_desc), &wide(other_desc)))
+    Ok(narrow(&first.to_rust().describe_relationship(&second.to_rust(), &wide(self_desc), &wide(other_desc))))
 }
 
 /// Compares a description in outputs of several rooms.
 fn describe(report: &mut Report, record: &[u8], other: &[u8], self_desc: &[u8], other_desc: &[u8]) {
-    let refused = refusal(record, other, self_desc, other_desc);
-    let text = if refused == 0 { rust_description(record, other, self_desc, other_desc) } else { Vec::new() };
-    each_room(text.len(), |room| {
-        let expected = if refused == 0 { text_outcome(&text, room) } else { refused_outcome(refused, room) };
+    let text = expected_text(record, other, self_desc, other_desc);
+    each_room(text.as_ref().map_or(16, |text| text.len()), |room| {
+        let expected = text_outcome(&text, room);
         let mut out = unwritten(room);
         let mut written = UNWRITTEN;
         let number = graph_name::describe_relationship(record, other, self_desc, other_desc, &mut out, &mut written);

@@ -1,12 +1,12 @@
 //! Comparisons of the entries that make and change records with the Rust's methods: whole buffers, and numbers by document 01's sizes.
 
-use crate::encoder::{decode, encode, sizes, verdict, RECORD, ZEROS};
+use crate::encoder::{decode, decode_two, encode, sizes, RECORD, ZEROS};
 use crate::generate::{self, Random};
 use crate::graph::{wide, Graph, Name};
 use crate::limits;
 use crate::name::GraphName;
 use crate::outputs::unwritten;
-use crate::records::{each_two, verdict_of_two};
+use crate::records::each_two;
 use crate::report::{Hex, Input, Report};
 
 /// A call's result and the buffer after it.
@@ -84,8 +84,11 @@ fn additions(report: &mut Report, rounds: usize, addition: &Addition) {
     let mut random = Random::new(11);
     for _ in 0..rounds / 16 {
         let buffer = generate::buffer(&mut random);
-        let value = if verdict(&buffer) == 0 { decode(&buffer).expect("a record").to_rust() } else { GraphName::default() };
-        add(report, addition, &value, &buffer, &generate::name(&mut random), &generate::name(&mut random));
+        let (from, to) = (generate::name(&mut random), generate::name(&mut random));
+        match decode(&buffer) {
+            Ok(graph) => drop(add(report, addition, &graph.to_rust(), &buffer, &from, &to)),
+            Err(number) => compare_addition(report, addition, &buffer, &from, &to, &(number, buffer.clone())),
+        }
     }
     for _ in 0..rounds / 16 {
         chain_of_additions(report, addition, &mut random);
@@ -104,19 +107,21 @@ fn chain_of_additions(report: &mut Report, addition: &Addition, random: &mut Ran
     }
 }
 
-/// Compares one addition to a buffer, which is the record of this Rust value or none. The result is the buffer expected after it.
-fn add(report: &mut Report, addition: &Addition, value: &GraphName, buffer: &[u8], from: &[u8], to: &[u8]) -> Vec<u8> {
+/// Compares one addition to the record of this Rust value. The result is the record expected after it.
+fn add(report: &mut Report, addition: &Addition, value: &GraphName, record: &[u8], from: &[u8], to: &[u8]) -> Vec<u8> {
     let mut after = value.clone();
     (addition.method)(&mut after, &wide(from), &wide(to));
-    let expected = match verdict(buffer) {
-        0 => outcome(buffer, &after),
-        number => (number, buffer.to_vec()),
-    };
+    let expected = outcome(record, &after);
+    compare_addition(report, addition, record, from, to, &expected);
+    expected.1
+}
+
+/// Compares one addition to a buffer with what is expected of it.
+fn compare_addition(report: &mut Report, addition: &Addition, buffer: &[u8], from: &[u8], to: &[u8], expected: &Outcome) {
     let mut record = buffer.to_vec();
     let number = (addition.call)(&mut record, from, to);
     let inputs = [("record", Input::Bytes(buffer)), ("from", Input::Bytes(from)), ("to", Input::Bytes(to))];
-    compare(report, addition.entry, &inputs, &expected, &(number, record));
-    expected.1
+    compare(report, addition.entry, &inputs, expected, &(number, record));
 }
 
 /// The Rust's method and the library's entry for an operation with another graph.
@@ -171,10 +176,9 @@ fn merged(operation: &Merge, value: &GraphName, record: &[u8], other: &GraphName
 
 /// Compares one operation with another graph on buffers of any kind. The result is the buffer expected after it.
 fn merge_buffers(report: &mut Report, operation: &Merge, buffer: &[u8], other: &[u8]) -> Vec<u8> {
-    let value = |record: &[u8]| decode(record).expect("a record").to_rust();
-    let expected = match verdict_of_two(buffer, other) {
-        0 => merged(operation, &value(buffer), buffer, &value(other)),
-        number => (number, buffer.to_vec()),
+    let expected = match decode_two(buffer, other) {
+        Ok((first, second)) => merged(operation, &first.to_rust(), buffer, &second.to_rust()),
+        Err(number) => (number, buffer.to_vec()),
     };
     merge(report, operation, buffer, other, expected)
 }

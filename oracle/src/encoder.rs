@@ -144,19 +144,22 @@ impl Counts {
     }
 }
 
-/// The refusal that a buffer gives: 15, 16 or 0.
-pub fn verdict(buffer: &[u8]) -> u32 {
-    if buffer.len() != RECORD {
-        15
-    } else if decode(buffer).is_none() {
-        16
-    } else {
-        0
+/// The graph of a buffer, or the refusal that it gives: 15 or 16.
+pub fn decode(buffer: &[u8]) -> Result<Graph, u32> {
+    if buffer.len() == RECORD { shown(buffer).ok_or(16) } else { Err(15) }
+}
+
+/// The graphs of two buffers, or the refusal that they give: 15 of either, then 16 of either.
+pub fn decode_two(record: &[u8], other: &[u8]) -> Result<(Graph, Graph), u32> {
+    match (decode(record), decode(other)) {
+        (Ok(first), Ok(second)) => Ok((first, second)),
+        (Err(15), _) | (_, Err(15)) => Err(15),
+        _ => Err(16),
     }
 }
 
 /// The graph that a buffer of the right length shows, if it keeps the layout.
-pub fn decode(record: &[u8]) -> Option<Graph> {
+fn shown(record: &[u8]) -> Option<Graph> {
     let counts = Counts::of(record);
     if !counts.fit() {
         return None;

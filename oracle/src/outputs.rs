@@ -41,11 +41,11 @@ pub fn refused_outcome(number: u32, room: usize) -> TextOutcome {
     (number, unwritten(room), UNWRITTEN)
 }
 
-/// The outcome of writing a text into an output of this room.
-pub fn text_outcome(text: &[u8], room: usize) -> TextOutcome {
-    if text.len() > room {
-        refused_outcome(17, room)
-    } else {
-        (0, filled(text, room), text.len() as u64)
+/// The outcome of writing a text, or of the refusal before it, with an output of this room.
+pub fn text_outcome(text: &Result<Vec<u8>, u32>, room: usize) -> TextOutcome {
+    match text {
+        Err(number) => refused_outcome(*number, room),
+        Ok(text) if text.len() > room => refused_outcome(17, room),
+        Ok(text) => (0, filled(text, room), text.len() as u64),
     }
 }

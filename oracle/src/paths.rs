@@ -1,13 +1,13 @@
 //! Comparisons of the two questions: the answers with the Rust's, and the path's bytes with those of the search in `model_paths`.
 
-use crate::encoder::{decode, encode, BODIES, LONGEST, NAMES, PAIRS};
+use crate::encoder::{decode_two, encode, BODIES, LONGEST, NAMES, PAIRS};
 use crate::generate::{chain, filling_names, full_graph, full_names, numbered, Random};
 use crate::graph::{Graph, Kind, Name, KINDS};
 use crate::model_paths::{best_path, path_bytes};
 use crate::name::GraphName;
-use crate::outputs::{compare_texts, filled, refused_outcome, unwritten, UNWRITTEN};
-use crate::records::{each_two, verdict_of_two};
-use crate::report::{Hex, Input, Report};
+use crate::outputs::{compare_texts, each_room, filled, refused_outcome, unwritten, UNWRITTEN};
+use crate::records::each_two;
+use crate::report::{Input, Report};
 
 /// The Rust's method and the library's entry of a question.
 struct Question {
@@ -119,29 +119,27 @@ pub fn large_graphs() -> Vec<(Graph, Graph)> {
 
 /// Asks with outputs of several rooms: none, one byte short of the path's bytes, just enough and more.
 fn ask(report: &mut Report, question: &Question, record: &[u8], other: &[u8]) {
-    let refused = verdict_of_two(record, other);
-    let answer = if refused == 0 { expected_answer(question, record, other) } else { None };
-    let length = answer.as_ref().map_or(16, |bytes| bytes.len());
-    for room in [0, length.saturating_sub(1), length, length + 7] {
-        let expected = match &answer {
-            _ if refused != 0 => refused_outcome(refused, room),
-            None => (0, unwritten(room), 0),
-            Some(bytes) if bytes.len() > room => refused_outcome(17, room),
-            Some(bytes) => (0, filled(bytes, room), 1),
+    let path = decode_two(record, other).map(|(first, second)| expected_path(question, &first, &second));
+    let length = path.as_ref().map_or(16, |bytes| bytes.as_ref().map_or(16, |bytes| bytes.len()));
+    each_room(length, |room| {
+        let expected = match &path {
+            Err(number) => refused_outcome(*number, room),
+            Ok(None) => (0, unwritten(room), 0),
+            Ok(Some(bytes)) if bytes.len() > room => refused_outcome(17, room),
+            Ok(Some(bytes)) => (0, filled(bytes, room), 1),
         };
         let mut out = unwritten(room);
         let mut answer = UNWRITTEN;
         let number = (question.call)(record, other, &mut out, &mut answer);
         let inputs = [("record", Input::Bytes(record)), ("other", Input::Bytes(other)), ("room", Input::Number(room as u64))];
         compare_texts(report, question.entry, &inputs, &expected, &(number, out, answer));
-    }
+    });
 }
 
 /// The path's bytes if the Rust says yes, none if it says no. A yes without a path, or a path without a yes, is an error of the models.
-fn expected_answer(question: &Question, record: &[u8], other: &[u8]) -> Option<Vec<u8>> {
-    let (first, second) = (decode(record).expect("a record"), decode(other).expect("a record"));
-    let path = best_path(&first, &second, question.full);
+fn expected_path(question: &Question, first: &Graph, second: &Graph) -> Option<Vec<u8>> {
+    let path = best_path(first, second, question.full);
     let yes = (question.method)(&first.to_rust(), &second.to_rust());
-    assert_eq!(path.is_some(), yes, "the Rust and the search disagree on {:?} and {:?}", Hex(record), Hex(other));
+    assert_eq!(path.is_some(), yes, "the Rust and the search disagree on {first:?} and {second:?}");
     path.map(|path| path_bytes(&path))
 }

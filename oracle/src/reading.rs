@@ -199,6 +199,6 @@ fn one_message(report: &mut Report, number: u32, line: u64, part: &[u8], room: u
         ("number", Input::Number(number.into())), ("line", Input::Number(line)), ("part", Input::Bytes(part)),
         ("room", Input::Number(room as u64)),
     ];
-    let outcome = text_outcome(&message(number, line, part), room);
+    let outcome = text_outcome(&Ok(message(number, line, part)), room);
     compare_texts(report, "error_message", &inputs, &outcome, &(result, out, written));
 }

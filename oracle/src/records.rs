@@ -1,6 +1,6 @@
 //! Comparisons of the entries that look at records: counts, names and pairs one by one, and whether two graphs are the same.
 
-use crate::encoder::{decode, encode, verdict, Counts, RECORD};
+use crate::encoder::{decode, decode_two, encode, Counts, RECORD};
 use crate::generate::{self, Random};
 use crate::graph::{Graph, Kind, Name};
 use crate::outputs::UNWRITTEN;
@@ -11,9 +11,9 @@ type Answer<const COUNT: usize> = (u32, [u64; COUNT]);
 
 /// The answer of a call on a buffer: that of its graph, or a refusal that writes nothing.
 fn answer<const COUNT: usize>(buffer: &[u8], of_graph: impl Fn(&Graph) -> [u64; COUNT]) -> Answer<COUNT> {
-    match verdict(buffer) {
-        0 => (0, of_graph(&decode(buffer).expect("a record"))),
-        number => (number, [UNWRITTEN; COUNT]),
+    match decode(buffer) {
+        Ok(graph) => (0, of_graph(&graph)),
+        Err(number) => (number, [UNWRITTEN; COUNT]),
     }
 }
 
@@ -92,7 +92,7 @@ fn places(random: &mut Random, count: usize) -> [u64; 4] {
 /// Compares `name_at`.
 pub fn name_at(report: &mut Report, rounds: usize) {
     each_buffer(rounds / 4, 4, |random, buffer| {
-        let count = decode_any(buffer).names().len();
+        let count = decode(buffer).map_or(0, |graph| graph.names().len());
         for place in places(random, count) {
             let of_graph = |graph: &Graph| match nth(graph.names().into_iter(), place) {
                 Some(name) => one_name(buffer, graph, &name.to_vec()),
@@ -105,11 +105,6 @@ pub fn name_at(report: &mut Report, rounds: usize) {
             report.compare("name_at", &inputs, answer(buffer, of_graph), got);
         }
     });
-}
-
-/// The graph of a buffer, or the empty one if it shows none.
-fn decode_any(buffer: &[u8]) -> Graph {
-    if verdict(buffer) == 0 { decode(buffer).expect("a record") } else { Graph::default() }
 }
 
 /// The item at a place, if there is one.
@@ -133,7 +128,7 @@ type PairAt = fn(&[u8], u64, &mut u64, &mut u64, &mut u64, &mut u64, &mut u64) -
 /// Compares an entry that gives the pairs of a kind.
 fn pair_at(report: &mut Report, rounds: usize, entry: &'static str, kind: Kind, call: PairAt) {
     each_buffer(rounds / 4, 5, |random, buffer| {
-        let count = decode_any(buffer).pairs(kind).len();
+        let count = decode(buffer).map_or(0, |graph| graph.pairs(kind).len());
         for place in places(random, count) {
             let of_graph = |graph: &Graph| match nth(graph.pairs(kind).iter(), place) {
                 Some((from, to)) => {
@@ -150,14 +145,6 @@ fn pair_at(report: &mut Report, rounds: usize, entry: &'static str, kind: Kind, 
             report.compare(entry, &inputs, answer(buffer, of_graph), (number, got));
         }
     });
-}
-
-/// The refusal that two buffers give: 15 of either, then 16 of either, or 0.
-pub fn verdict_of_two(record: &[u8], other: &[u8]) -> u32 {
-    match (verdict(record), verdict(other)) {
-        (15, _) | (_, 15) => 15,
-        (own, other) => own.max(other),
-    }
 }
 
 /// Calls a comparison on pairs of buffers: two records over the same names, and each with a buffer of any kind in its place.
@@ -179,19 +166,13 @@ pub fn each_two(rounds: usize, seed: u64, mut call: impl FnMut(&mut Random, &[u8
 /// Compares `is_same` with the Rust's.
 pub fn is_same(report: &mut Report, rounds: usize) {
     each_two(rounds, 6, |_, record, other| {
-        let expected = match verdict_of_two(record, other) {
-            0 => (0, [u64::from(rust_is_same(record, other))]),
-            number => (number, [UNWRITTEN]),
+        let expected = match decode_two(record, other) {
+            Ok((first, second)) => (0, [u64::from(first.to_rust().is_same(&second.to_rust()))]),
+            Err(number) => (number, [UNWRITTEN]),
         };
         let mut answer = UNWRITTEN;
         let number = graph_name::is_same(record, other, &mut answer);
         let inputs = [("record", Input::Bytes(record)), ("other", Input::Bytes(other))];
         report.compare("is_same", &inputs, expected, (number, [answer]));
     });
-}
-
-/// Whether the Rust says that the graphs of two records are the same.
-fn rust_is_same(record: &[u8], other: &[u8]) -> bool {
-    let graph = |buffer: &[u8]| decode(buffer).expect("a record").to_rust();
-    graph(record).is_same(&graph(other))
 }

@@ -1,7 +1,7 @@
 //! Checks of the oracle's own models: the encoder against the decoder, and the readings, messages, paths and descriptions against the
 //! Rust, on the inputs that the library is then asked about.
 
-use crate::encoder::{decode, encode, sizes, verdict, Raw, RECORD};
+use crate::encoder::{decode, encode, sizes, Raw, RECORD};
 use crate::generate::{self, Random};
 use crate::graph::{narrow, wide, Graph, Kind, KINDS};
 use crate::model_paths::{best_path, description, enumerated};
@@ -30,14 +30,15 @@ pub fn run(report: &mut Report, rounds: usize) {
 fn layout(report: &mut Report, rounds: usize) {
     for graph in limits::graphs() {
         let back = (sizes(&graph), decode(&encode(&graph)), Graph::of_wide(&graph.to_rust()));
-        report.check("model: layout", &[], &(0, Some(graph.clone()), graph), &back);
+        report.check("model: layout", &[], &(0, Ok(graph.clone()), graph), &back);
     }
     each_buffer(rounds, 70, |random, buffer| {
         let graph = generate::graph(random);
         let back = (sizes(&graph), decode(&encode(&graph)), Graph::of_wide(&graph.to_rust()));
-        report.check("model: layout", &[("record", Input::Bytes(&encode(&graph)))], &(0, Some(graph.clone()), graph), &back);
+        report.check("model: layout", &[("record", Input::Bytes(&encode(&graph)))], &(0, Ok(graph.clone()), graph), &back);
         let expected = if buffer.len() != RECORD { 15 } else if is_encoding(buffer) { 0 } else { 16 };
-        report.check("model: layout", &[("record", Input::Bytes(buffer))], &expected, &verdict(buffer));
+        let number = decode(buffer).err().unwrap_or(0);
+        report.check("model: layout", &[("record", Input::Bytes(buffer))], &expected, &number);
     });
 }
 

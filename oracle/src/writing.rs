@@ -1,11 +1,11 @@
 //! Comparisons of the writers with the Rust's: header lines of both kinds, each line ended by byte 10, and the three tag values.
 
-use crate::encoder::{decode, encode, verdict};
+use crate::encoder::{decode, encode};
 use crate::generate::Random;
-use crate::graph::narrow;
+use crate::graph::{narrow, Graph};
 use crate::limits;
 use crate::name::GraphName;
-use crate::outputs::{compare_texts, each_room, filled, refused_outcome, text_outcome, unwritten, UNWRITTEN};
+use crate::outputs::{compare_texts, each_room, filled, text_outcome, unwritten, UNWRITTEN};
 use crate::records::each_buffer;
 use crate::report::{Hex, Input, Report};
 use crate::Tags;
@@ -39,18 +39,11 @@ fn header_lines(report: &mut Report, rounds: usize, writer: &Writer) {
     each_buffer(rounds / 4, 30, |_, buffer| lines_of(report, writer, buffer));
 }
 
-/// The Rust value of a record.
-fn rust_value(record: &[u8]) -> GraphName {
-    decode(record).expect("a record").to_rust()
-}
-
 /// Compares the header lines of one buffer in outputs of several rooms.
 fn lines_of(report: &mut Report, writer: &Writer, buffer: &[u8]) {
-    let refused = verdict(buffer);
-    let lines = if refused == 0 { (writer.method)(&rust_value(buffer)) } else { Vec::new() };
-    let text: Vec<u8> = lines.iter().flat_map(|line| [narrow(line), vec![b'\n']].concat()).collect();
-    each_room(text.len(), |room| {
-        let expected = if refused == 0 { text_outcome(&text, room) } else { refused_outcome(refused, room) };
+    let text = decode(buffer).map(|graph| joined(&(writer.method)(&graph.to_rust())));
+    each_room(text.as_ref().map_or(16, |text| text.len()), |room| {
+        let expected = text_outcome(&text, room);
         let mut out = unwritten(room);
         let mut written = UNWRITTEN;
         let number = (writer.call)(buffer, &mut out, &mut written);
@@ -59,13 +52,21 @@ fn lines_of(report: &mut Report, writer: &Writer, buffer: &[u8]) {
     });
 }
 
-/// The three tag values that the Rust gives for a record, each present or absent.
-fn rust_tags(record: &[u8]) -> [Option<Vec<u8>>; 3] {
+/// Lines of the Rust's, each ended by byte 10.
+fn joined(lines: &[String]) -> Vec<u8> {
+    lines.iter().flat_map(|line| [narrow(line), vec![b'\n']].concat()).collect()
+}
+
+/// Three tag values, each present or absent.
+type Values = [Option<Vec<u8>>; 3];
+
+/// The three tag values that the Rust gives for a graph.
+fn rust_tags(graph: &Graph) -> Values {
     let mut tags = Tags::default();
     for key in ["pggname", "subgraph", "translation"] {
         tags.insert(key, "a value from before");
     }
-    rust_value(record).set_tags(&mut tags);
+    graph.to_rust().set_tags(&mut tags);
     ["pggname", "subgraph", "translation"].map(|key| tags.get(key).map(|value| narrow(value)))
 }
 
@@ -80,15 +81,15 @@ pub fn set_tags(report: &mut Report, rounds: usize) {
 
 /// Compares the tag values of one buffer: in outputs of just enough room, in each with one of them short, and in random ones.
 fn tags_of(report: &mut Report, random: &mut Random, buffer: &[u8]) {
-    let refused = verdict(buffer);
-    let values = if refused == 0 { rust_tags(buffer) } else { [None, None, None] };
-    let lengths = [0, 1, 2].map(|place: usize| values[place].as_ref().map_or(0, |value| value.len()));
+    let values = decode(buffer).map(|graph| rust_tags(&graph));
+    let length = |value: &Option<Vec<u8>>| value.as_ref().map_or(0, |value| value.len());
+    let lengths = values.as_ref().map_or([16; 3], |values| values.each_ref().map(length));
     let mut short = lengths;
     let place = random.below(3);
     short[place] = short[place].saturating_sub(1 + random.below(2));
     let more = lengths.map(|length| length + random.below(4));
     for rooms in [lengths, short, more] {
-        tags_in(report, buffer, refused, &values, rooms);
+        tags_in(report, buffer, &values, rooms);
     }
 }
 
@@ -96,11 +97,14 @@ fn tags_of(report: &mut Report, random: &mut Random, buffer: &[u8]) {
 type TagsOutcome = (u32, [Vec<u8>; 3], [u64; 6]);
 
 /// The outcome that is expected of `set_tags`, with outputs of these rooms.
-fn expected_tags(refused: u32, values: &[Option<Vec<u8>>; 3], rooms: [usize; 3]) -> TagsOutcome {
-    let fits = |place: usize| values[place].as_ref().is_none_or(|value| value.len() <= rooms[place]);
-    let number = if refused != 0 { refused } else if [0, 1, 2].into_iter().all(fits) { 0 } else { 17 };
-    if number != 0 {
-        return (number, rooms.map(unwritten), [UNWRITTEN; 6]);
+fn expected_tags(values: &Result<Values, u32>, rooms: [usize; 3]) -> TagsOutcome {
+    let refused = |number: u32| (number, rooms.map(unwritten), [UNWRITTEN; 6]);
+    let values = match values {
+        Ok(values) => values,
+        Err(number) => return refused(*number),
+    };
+    if values.iter().zip(rooms).any(|(value, room)| value.as_ref().is_some_and(|value| value.len() > room)) {
+        return refused(17);
     }
     let out = |place: usize| filled(values[place].as_deref().unwrap_or(b""), rooms[place]);
     let present = |place: usize| u64::from(values[place].is_some());
@@ -110,7 +114,7 @@ fn expected_tags(refused: u32, values: &[Option<Vec<u8>>; 3], rooms: [usize; 3])
 }
 
 /// Compares the tag values of one buffer in outputs of these rooms.
-fn tags_in(report: &mut Report, buffer: &[u8], refused: u32, values: &[Option<Vec<u8>>; 3], rooms: [usize; 3]) {
+fn tags_in(report: &mut Report, buffer: &[u8], values: &Result<Values, u32>, rooms: [usize; 3]) {
     let [mut name, mut subgraph, mut translation] = rooms.map(unwritten);
     let mut numbers = [UNWRITTEN; 6];
     let [has_name, name_length, has_subgraph, subgraph_length, has_translation, translation_length] = &mut numbers;
@@ -118,7 +122,7 @@ fn tags_in(report: &mut Report, buffer: &[u8], refused: u32, values: &[Option<Ve
         buffer, &mut name, &mut subgraph, &mut translation,
         has_name, name_length, has_subgraph, subgraph_length, has_translation, translation_length,
     );
-    let expected = expected_tags(refused, values, rooms);
+    let expected = expected_tags(values, rooms);
     let inputs = [
         ("record", Input::Bytes(buffer)), ("room for the name", Input::Number(rooms[0] as u64)),
         ("room for subgraphs", Input::Number(rooms[1] as u64)), ("room for translations", Input::Number(rooms[2] as u64)),
