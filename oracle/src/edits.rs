@@ -1,5 +1,6 @@
 //! Comparisons of the entries that make and change records with the Rust's methods: whole buffers, and numbers by document 01's sizes.
 
+use crate::buffers;
 use crate::encoder::{decode, decode_two, encode, sizes, RECORD, ZEROS};
 use crate::generate::{self, Random};
 use crate::graph::{wide, Graph, Name};
@@ -83,7 +84,7 @@ fn additions(report: &mut Report, rounds: usize, addition: &Addition) {
     }
     let mut random = Random::new(11);
     for _ in 0..rounds / 16 {
-        let buffer = generate::buffer(&mut random);
+        let buffer = buffers::buffer(&mut random);
         let (from, to) = (generate::name(&mut random), generate::name(&mut random));
         match decode(&buffer) {
             Ok(graph) => drop(add(report, addition, &graph.to_rust(), &buffer, &from, &to)),

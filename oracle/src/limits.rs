@@ -4,7 +4,7 @@ use crate::encoder::{BODIES, LONGEST, NAMES, PAIRS};
 use crate::generate::{full_graph, full_names, numbered, Random};
 use crate::graph::{Graph, Kind, Name, KINDS};
 
-/// The first so many pairs over names, in the order of the second name, so that each name is soon used.
+/// The first so many pairs over names: each with itself, then each with the next, and so on, so that each name is soon used.
 fn first_pairs(names: &[Name], count: usize) -> impl Iterator<Item = (Name, Name)> + '_ {
     let all = (0..names.len()).flat_map(move |gap| (0..names.len()).map(move |from| (from, (from + gap) % names.len())));
     all.take(count).map(|(from, to)| (names[from].clone(), names[to].clone()))

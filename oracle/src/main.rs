@@ -6,6 +6,7 @@
 
 #![cfg_attr(not(have_all), allow(dead_code))]
 
+mod buffers;
 mod describe;
 mod edits;
 mod encoder;
@@ -26,6 +27,7 @@ mod report;
 mod self_check;
 mod shim;
 mod strict;
+mod texts;
 mod writing;
 
 use report::Report;

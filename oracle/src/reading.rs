@@ -8,6 +8,7 @@ use crate::limits;
 use crate::model_reading::{message, read_header, read_tags, Refusal, TagValues};
 use crate::outputs::{compare_texts, each_room, text_outcome, unwritten, UNWRITTEN};
 use crate::report::{Hex, Input, Inputs, Report};
+use crate::texts;
 
 /// Bytes that reach every branch of the reading of header lines.
 const HEADER_BYTES: &[u8] = b"H@RNSGTLZM:,\t\na";
@@ -29,16 +30,16 @@ const EXAMPLES: [&[u8]; 22] = [
 /// Calls a function on header texts: the examples, all short ones, random ones and damaged ones.
 pub fn each_header_text(rounds: usize, mut call: impl FnMut(&[u8])) {
     EXAMPLES.into_iter().for_each(&mut call);
-    generate::each_text(HEADER_BYTES, generate::length_within(HEADER_BYTES.len(), 10 * rounds), &mut call);
+    texts::each_text(HEADER_BYTES, texts::length_within(HEADER_BYTES.len(), 10 * rounds), &mut call);
     for beginning in BEGINNINGS {
-        let longest = generate::length_within(FURTHER_BYTES.len(), rounds / 2);
-        generate::each_text(FURTHER_BYTES, longest, |text| call(&[beginning, text].concat()));
+        let longest = texts::length_within(FURTHER_BYTES.len(), rounds / 2);
+        texts::each_text(FURTHER_BYTES, longest, |text| call(&[beginning, text].concat()));
     }
     let mut random = Random::new(20);
     for _ in 0..rounds {
-        let lines = generate::header_lines(&mut random);
-        call(&generate::header_parts(&mut random));
-        call(&generate::damaged_text(&mut random, lines.clone()));
+        let lines = texts::header_lines(&mut random);
+        call(&texts::header_parts(&mut random));
+        call(&texts::damaged_text(&mut random, lines.clone()));
         call(&lines);
     }
 }
@@ -107,7 +108,7 @@ const TAG_BYTES: &[u8] = b"a,;b";
 
 /// Calls a function on tag values: all short ones in each tag, and random ones.
 pub fn each_tags(rounds: usize, mut call: impl FnMut(TagValues)) {
-    generate::each_text(TAG_BYTES, generate::length_within(TAG_BYTES.len(), rounds), |value| {
+    texts::each_text(TAG_BYTES, texts::length_within(TAG_BYTES.len(), rounds), |value| {
         call(TagValues { name: None, subgraph: Some(value), translation: None });
         call(TagValues { name: Some(b"a"), subgraph: None, translation: Some(value) });
         call(TagValues { name: Some(value), subgraph: Some(b"a,b;a,b"), translation: Some(b"b,a") });
@@ -115,7 +116,7 @@ pub fn each_tags(rounds: usize, mut call: impl FnMut(TagValues)) {
     let mut random = Random::new(21);
     for _ in 0..rounds {
         let (name, subgraph, translation) =
-            (generate::tag_value(&mut random), generate::tag_value(&mut random), generate::tag_value(&mut random));
+            (texts::tag_value(&mut random), texts::tag_value(&mut random), texts::tag_value(&mut random));
         let mut present = |value| if random.once_in(4) { None } else { Some(value) };
         call(TagValues { name: present(&name[..]), subgraph: present(&subgraph), translation: present(&translation) });
     }
@@ -180,8 +181,8 @@ pub fn error_message(report: &mut Report, rounds: usize) {
         }
     }
     for _ in 0..rounds / 4 {
-        let lines = generate::header_lines(&mut random);
-        let text = generate::damaged_text(&mut random, lines);
+        let lines = texts::header_lines(&mut random);
+        let text = texts::damaged_text(&mut random, lines);
         if let Err(refusal) = read_header(&text) {
             let part = &text[refusal.start as usize..(refusal.start + refusal.length) as usize];
             let length = message(refusal.number, refusal.line, part).len();

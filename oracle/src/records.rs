@@ -1,5 +1,6 @@
 //! Comparisons of the entries that look at records: counts, names and pairs one by one, and whether two graphs are the same.
 
+use crate::buffers;
 use crate::encoder::{decode, decode_two, encode, Counts, RECORD};
 use crate::generate::{self, Random};
 use crate::graph::{Graph, Kind, Name};
@@ -22,10 +23,10 @@ fn each_fixed_buffer(mut call: impl FnMut(&[u8])) {
     for length in [0, 1, RECORD - 1, RECORD + 1] {
         call(&vec![0; length]);
     }
-    for graph in generate::small_graphs() {
+    for graph in buffers::small_graphs() {
         let record = encode(&graph);
         call(&record);
-        generate::each_damage(&record, &mut call);
+        buffers::each_damage(&record, &mut call);
     }
     let mut full = encode(&generate::full_graph(&mut Random::new(1), b'f'));
     call(&full);
@@ -41,7 +42,7 @@ pub fn each_buffer(rounds: usize, seed: u64, mut call: impl FnMut(&mut Random, &
     let mut random = Random::new(seed);
     each_fixed_buffer(|buffer| call(&mut random, buffer));
     for _ in 0..rounds {
-        let buffer = generate::buffer(&mut random);
+        let buffer = buffers::buffer(&mut random);
         call(&mut random, &buffer);
     }
 }
@@ -154,9 +155,9 @@ pub fn each_two(rounds: usize, seed: u64, mut call: impl FnMut(&mut Random, &[u8
         let (first, second) = generate::two_graphs(&mut random);
         let (mut record, mut other) = (encode(&first), encode(&second));
         match random.below(12) {
-            0 => record = generate::buffer(&mut random),
-            1 => other = generate::buffer(&mut random),
-            2 => (record, other) = (generate::buffer(&mut random), generate::buffer(&mut random)),
+            0 => record = buffers::buffer(&mut random),
+            1 => other = buffers::buffer(&mut random),
+            2 => (record, other) = (buffers::buffer(&mut random), buffers::buffer(&mut random)),
             _ => {}
         }
         call(&mut random, &record, &other);

@@ -1,8 +1,9 @@
 //! Comparisons of the strict reading with the expressions of the GFA 1 specification.
 
-use crate::generate::{self, Random};
+use crate::generate::Random;
 use crate::model_strict::Grammar;
 use crate::report::{Input, Report};
+use crate::texts;
 
 /// For each type, the bytes over which all short values are tried.
 const VALUE_BYTES: [(u8, &[u8]); 9] = [
@@ -37,9 +38,9 @@ pub fn check_strict(report: &mut Report, rounds: usize) {
 /// Calls a function on lines with all short values of each type.
 fn each_value(rounds: usize, call: &mut impl FnMut(&[u8])) {
     for (kind, bytes) in VALUE_BYTES {
-        let longest = generate::length_within(bytes.len(), 2 * rounds);
-        generate::each_text(bytes, longest, |value| call(&[b"H\tab:", &[kind][..], b":", value].concat()));
-        generate::each_text(b"5+,.", 3, |value| call(&[b"H\tab:", &[kind][..], b":f,1.5e-7", value].concat()));
+        let longest = texts::length_within(bytes.len(), 2 * rounds);
+        texts::each_text(bytes, longest, |value| call(&[b"H\tab:", &[kind][..], b":", value].concat()));
+        texts::each_text(b"5+,.", 3, |value| call(&[b"H\tab:", &[kind][..], b":f,1.5e-7", value].concat()));
     }
 }
 
@@ -64,14 +65,14 @@ fn each_byte(call: &mut impl FnMut(&[u8])) {
 
 /// Calls a function on all short lines, on random ones, and on lines with many fields and a tag twice.
 fn each_line(rounds: usize, call: &mut impl FnMut(&[u8])) {
-    generate::each_text(b"H\ta:Z1", generate::length_within(6, rounds), &mut *call);
+    texts::each_text(b"H\ta:Z1", texts::length_within(6, rounds), &mut *call);
     let mut random = Random::new(60);
     for _ in 0..rounds {
         let count = random.below(6);
         let parts: Vec<u8> = (0..count).flat_map(|_| random.pick(&LINE_PARTS).to_vec()).collect();
         let line = if random.once_in(8) { parts } else { [b"H", parts.as_slice()].concat() };
         call(&line);
-        call(&generate::damaged_text(&mut random, line));
+        call(&texts::damaged_text(&mut random, line));
     }
     for repeated in [0, 1, 700, 2702, 2703] {
         call(&many_tags(repeated));
