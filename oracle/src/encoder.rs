@@ -83,7 +83,7 @@ impl Raw {
     }
 }
 
-/// The record of a graph within the sizes.
+/// The record of a graph within the sizes; for one beyond them, the buffer that its tables and names make.
 pub fn encode(graph: &Graph) -> Vec<u8> {
     Raw::of(graph).write()
 }

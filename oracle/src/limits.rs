@@ -28,17 +28,20 @@ fn with_name(mut graph: Graph, name: &[u8]) -> Graph {
     graph
 }
 
-/// Names of 256 bytes, 87 of them, and one that leaves so many bytes of the limit.
-fn long_names(mark: u8, left: usize) -> Vec<Name> {
+/// The length at which a name beside 87 names of 256 bytes reaches the limit of all bytes.
+const REST: usize = BODIES % LONGEST;
+
+/// Names of 256 bytes, 87 of them, and one of this length.
+fn long_names(mark: u8, last: usize) -> Vec<Name> {
     let most = BODIES / LONGEST;
     let mut names: Vec<Name> = (0..most).map(|number| numbered(mark, number, LONGEST)).collect();
-    names.push(numbered(mark, most, BODIES - most * LONGEST - left));
+    names.push(numbered(mark, most, last));
     names
 }
 
 /// A graph whose texts are the longest: 1,024 pairs of each kind over names of 256 bytes.
 pub fn longest_text() -> Graph {
-    let names = &long_names(b'L', 0)[..BODIES / LONGEST];
+    let names = &long_names(b'L', REST)[..BODIES / LONGEST];
     let mut graph = Graph::named(&names[0]);
     for kind in KINDS {
         graph.pairs_mut(kind).extend(first_pairs(names, PAIRS));
@@ -49,7 +52,7 @@ pub fn longest_text() -> Graph {
 /// Graphs at a limit or one short of it, all within the sizes. The own name of some is in no pair.
 pub fn graphs() -> Vec<Graph> {
     let short = short_names(b's', NAMES);
-    let long = long_names(b'l', 0);
+    let long = long_names(b'l', REST);
     let mut list = vec![
         full_graph(&mut Random::new(1), b'f'),
         over(&full_names(b'f'), Kind::Translation, NAMES),
@@ -59,15 +62,29 @@ pub fn graphs() -> Vec<Graph> {
         with_name(over(&short[2..], Kind::Translation, PAIRS - 1), b"own"),
         over(&short_names(b'k', 40), Kind::Subgraph, PAIRS),
         with_name(over(&short_names(b'k', 40), Kind::Subgraph, PAIRS - 1), b"k00003"),
-        with_name(over(&long_names(b'l', 8), Kind::Subgraph, 88), &long[0]),
-        with_name(over(&long_names(b'l', 11), Kind::Translation, 88), b"own"),
-        with_name(over(&long[..60], Kind::Translation, PAIRS), &long_names(b'm', 0)[1]),
+        with_name(over(&long_names(b'l', REST - 8), Kind::Subgraph, 88), &long[0]),
+        with_name(over(&long_names(b'l', REST - 11), Kind::Translation, 88), b"own"),
+        with_name(over(&long[..60], Kind::Translation, PAIRS), &long_names(b'm', REST)[1]),
         longest_text(),
     ];
     list.push(over(&long, Kind::Subgraph, 88));
     list.push(with_name(over(&long[1..], Kind::Translation, 87), &long[0]));
     list.extend([Graph::default(), Graph::named(b""), Graph::named(b"own")]);
     list
+}
+
+/// Graphs one past a limit, whose tables and names still fit into a buffer.
+pub fn graphs_beyond() -> Vec<Graph> {
+    let short = short_names(b's', NAMES + 1);
+    vec![
+        over(&short, Kind::Subgraph, NAMES + 1),
+        with_name(over(&short[1..], Kind::Translation, NAMES), b"own"),
+        over(&short_names(b'k', 40), Kind::Subgraph, PAIRS + 1),
+        over(&short_names(b'k', 40), Kind::Translation, PAIRS + 1),
+        Graph::named(&vec![b'n'; LONGEST + 1]),
+        over(&long_names(b'l', REST + 1), Kind::Subgraph, 88),
+        over(&long_names(b'l', LONGEST), Kind::Translation, 88),
+    ]
 }
 
 /// Names that take a graph at a limit to it or past it, in a list that also has names in use.

@@ -49,7 +49,8 @@ pub fn each_limit_text(mut call: impl FnMut(&[u8])) {
     for graph in limits::graphs() {
         for gfa in [false, true] {
             let text = limits::text_of(&graph, gfa);
-            for line in limits::further_lines().iter().step_by(if text.len() > 30000 { 7 } else { 1 }) {
+            let step = if text.len() > 30000 { 5 } else { 1 };
+            for line in limits::further_lines().iter().step_by(step) {
                 call(&[text.as_slice(), line].concat());
             }
         }

@@ -4,6 +4,7 @@ use crate::buffers;
 use crate::encoder::{decode, decode_two, encode, Counts, RECORD};
 use crate::generate::{self, Random};
 use crate::graph::{Graph, Kind, Name};
+use crate::limits;
 use crate::outputs::UNWRITTEN;
 use crate::report::{Input, Report};
 
@@ -18,7 +19,8 @@ fn answer<const COUNT: usize>(buffer: &[u8], of_graph: impl Fn(&Graph) -> [u64; 
     }
 }
 
-/// Calls a function on fixed buffers: wrong lengths, and records that are empty, small or full, as they are and damaged.
+/// Calls a function on fixed buffers: wrong lengths, small records as they are and damaged, graphs at the limits and one past them, and a
+/// full record damaged.
 fn each_fixed_buffer(mut call: impl FnMut(&[u8])) {
     for length in [0, 1, RECORD - 1, RECORD + 1] {
         call(&vec![0; length]);
@@ -28,8 +30,10 @@ fn each_fixed_buffer(mut call: impl FnMut(&[u8])) {
         call(&record);
         buffers::each_damage(&record, &mut call);
     }
+    for graph in limits::graphs().iter().chain(&limits::graphs_beyond()) {
+        call(&encode(graph));
+    }
     let mut full = encode(&generate::full_graph(&mut Random::new(1), b'f'));
-    call(&full);
     for place in (0..RECORD).step_by(911).chain([8, 9, 10, 11, 2056, 2057, 10247, 10248, RECORD - 1]) {
         full[place] = full[place].wrapping_add(1);
         call(&full);

@@ -32,6 +32,8 @@ fn layout(report: &mut Report, rounds: usize) {
         let back = (sizes(&graph), decode(&encode(&graph)), Graph::of_wide(&graph.to_rust()));
         report.check("model: layout", &[], &(0, Ok(graph.clone()), graph), &back);
     }
+    let beyond: Vec<u32> = limits::graphs_beyond().iter().map(sizes).collect();
+    report.check("model: layout", &[], &vec![12, 12, 13, 13, 11, 14, 14], &beyond);
     each_buffer(rounds, 70, |random, buffer| {
         let graph = generate::graph(random);
         let back = (sizes(&graph), decode(&encode(&graph)), Graph::of_wide(&graph.to_rust()));

@@ -1,9 +1,8 @@
 //! Comparisons of the writers with the Rust's: header lines of both kinds, each line ended by byte 10, and the three tag values.
 
-use crate::encoder::{decode, encode};
+use crate::encoder::decode;
 use crate::generate::Random;
 use crate::graph::{narrow, Graph};
-use crate::limits;
 use crate::name::GraphName;
 use crate::outputs::{compare_texts, each_room, filled, text_outcome, unwritten, UNWRITTEN};
 use crate::records::each_buffer;
@@ -31,11 +30,8 @@ pub fn to_gaf_header_lines(report: &mut Report, rounds: usize) {
     header_lines(report, rounds, &writer);
 }
 
-/// Compares a writer of header lines on graphs at the limits and on buffers of any kind.
+/// Compares a writer of header lines on buffers of any kind.
 fn header_lines(report: &mut Report, rounds: usize, writer: &Writer) {
-    for graph in limits::graphs() {
-        lines_of(report, writer, &encode(&graph));
-    }
     each_buffer(rounds / 4, 30, |_, buffer| lines_of(report, writer, buffer));
 }
 
@@ -72,10 +68,6 @@ fn rust_tags(graph: &Graph) -> Values {
 
 /// Compares `set_tags`.
 pub fn set_tags(report: &mut Report, rounds: usize) {
-    let mut random = Random::new(31);
-    for graph in limits::graphs() {
-        tags_of(report, &mut random, &encode(&graph));
-    }
     each_buffer(rounds / 4, 32, |random, buffer| tags_of(report, random, buffer));
 }
 
