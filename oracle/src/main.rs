@@ -45,9 +45,9 @@ macro_rules! compare {
 }
 
 /// Compares all entries.
+#[cfg_attr(not(have_all), allow(unused_variables))]
 fn entries(rounds: usize) -> Report {
     let mut report = Report::default();
-    let _ = rounds;
     compare!(report, rounds,
         have_counts records::counts,
         have_name records::name,
