@@ -1,14 +1,14 @@
 //! Counts of comparisons for each entry, and for each entry with a mismatch the one with the smallest input.
 
 use std::collections::{BTreeMap, BTreeSet};
-use std::fmt::{Debug, Formatter, Result};
+use std::fmt::{self, Debug, Formatter};
 
 /// Bytes that are shown in hexadecimal, a run of one byte at the end as that byte and its count.
 #[derive(PartialEq, Eq)]
 pub struct Hex<'a>(pub &'a [u8]);
 
 impl Debug for Hex<'_> {
-    fn fmt(&self, out: &mut Formatter<'_>) -> Result {
+    fn fmt(&self, out: &mut Formatter<'_>) -> fmt::Result {
         let last = self.0.last().copied().unwrap_or(0);
         let run = self.0.iter().rev().take_while(|&&byte| byte == last).count();
         let kept = if run > 8 { self.0.len() - run } else { self.0.len() };

@@ -72,7 +72,7 @@ fn h_line(random: &mut Random) -> Vec<u8> {
     line
 }
 
-/// A text with one byte taken out, doubled or changed.
+/// A text with one byte taken out, doubled or changed, or cut short.
 pub fn damaged_text(random: &mut Random, mut text: Vec<u8>) -> Vec<u8> {
     if text.is_empty() {
         return text;
