@@ -1,0 +1,96 @@
+//! Compares the functions of `libgraph_name.a` with the Rust module `src/name.rs` of gbwt-rs, which is built as it stands, and with models
+//! written from document 01 where the Rust has no counterpart.
+//!
+//! The program takes the number of rounds in thousands, and `--self` to check the models alone. `oracle/run` builds and runs it, and
+//! passes `have_NAME` for each function that the library exports.
+
+#![cfg_attr(not(have_all), allow(dead_code))]
+
+mod buffers;
+mod describe;
+mod edits;
+mod encoder;
+mod generate;
+mod graph;
+mod limits;
+mod model_paths;
+mod model_reading;
+mod model_strict;
+#[allow(dead_code)]
+#[path = "../../../shared/docs/src/src/name.rs"]
+mod name;
+mod outputs;
+mod paths;
+mod reading;
+mod records;
+mod report;
+mod self_check;
+mod shim;
+mod strict;
+mod texts;
+mod writing;
+
+use report::Report;
+use shim::{Tags, GBZ};
+use std::process::ExitCode;
+
+/// Compares each entry that the library exports, and notes the others.
+macro_rules! compare {
+    ($report:ident, $rounds:ident, $($have:ident $module:ident::$entry:ident,)*) => {$(
+        #[cfg($have)]
+        $module::$entry(&mut $report, $rounds);
+        #[cfg(not($have))]
+        $report.absent(stringify!($entry));
+    )*};
+}
+
+/// Compares all entries.
+#[cfg_attr(not(have_all), allow(unused_variables))]
+fn entries(rounds: usize) -> Report {
+    let mut report = Report::default();
+    compare!(report, rounds,
+        have_counts records::counts,
+        have_name records::name,
+        have_name_at records::name_at,
+        have_subgraph_at records::subgraph_at,
+        have_translation_at records::translation_at,
+        have_is_same records::is_same,
+        have_new edits::new,
+        have_add_subgraph edits::add_subgraph,
+        have_add_translation edits::add_translation,
+        have_make_subgraph_of edits::make_subgraph_of,
+        have_add_translation_to edits::add_translation_to,
+        have_add_relationships edits::add_relationships,
+        have_from_header_lines reading::from_header_lines,
+        have_from_tags reading::from_tags,
+        have_error_message reading::error_message,
+        have_to_gfa_header_lines writing::to_gfa_header_lines,
+        have_to_gaf_header_lines writing::to_gaf_header_lines,
+        have_set_tags writing::set_tags,
+        have_is_subgraph_of paths::is_subgraph_of,
+        have_translates_to paths::translates_to,
+        have_describe_relationship describe::describe_relationship,
+        have_check_strict strict::check_strict,
+    );
+    report
+}
+
+/// Checks the models, and unless they alone are asked for compares the entries. The result is whether all agreed.
+fn run(rounds: usize, models_alone: bool) -> bool {
+    let mut models = Report::default();
+    self_check::run(&mut models, rounds);
+    let agreed = models.print("models against the Rust");
+    agreed & (models_alone || entries(rounds).print("library against the Rust and the models"))
+}
+
+/// Runs the comparisons on a stack of 640 KB, since no entry is to take more than 512 KB. Fails on a mismatch.
+fn main() -> ExitCode {
+    let words: Vec<String> = std::env::args().skip(1).collect();
+    let thousands = words.iter().find_map(|word| word.parse::<usize>().ok()).unwrap_or(1);
+    let models_alone = words.iter().any(|word| word == "--self");
+    let thread = std::thread::Builder::new().stack_size(640 * 1024).spawn(move || run(1000 * thousands, models_alone));
+    match thread.expect("a thread").join() {
+        Ok(true) => ExitCode::SUCCESS,
+        _ => ExitCode::FAILURE,
+    }
+}
