@@ -85,8 +85,8 @@ fn sample(title: &'static str, graph: &Graph) -> Sample {
 /// A pair of names in use that is not among the subgraph pairs.
 fn added(graph: &Graph) -> (String, String) {
     let names = graph.names();
-    let pairs = names.iter().flat_map(|from| names.iter().map(|to| (from.to_vec(), to.to_vec())));
-    let (from, to) = pairs.into_iter().find(|pair| !graph.subgraph.contains(pair)).expect("a new pair");
+    let mut pairs = names.iter().flat_map(|from| names.iter().map(|to| (from.to_vec(), to.to_vec())));
+    let (from, to) = pairs.find(|pair| !graph.subgraph.contains(pair)).expect("a new pair");
     (wide(&from), wide(&to))
 }
 

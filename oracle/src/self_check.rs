@@ -25,19 +25,20 @@ pub fn run(report: &mut Report, rounds: usize) {
     strict(report);
 }
 
-/// Checks that a graph comes back from its record and from the Rust, and that a buffer is a record exactly if it is the encoding of what
-/// a plain reading of its tables shows.
+/// Checks that a graph is within the sizes and comes back from its record and from the Rust.
+fn there_and_back(report: &mut Report, graph: &Graph) {
+    let record = encode(graph);
+    let back = (sizes(graph), decode(&record), Graph::of_wide(&graph.to_rust()));
+    report.check("model: layout", &[("record", Input::Bytes(&record))], &(0, Ok(graph.clone()), graph.clone()), &back);
+}
+
+/// Checks the layout: graphs come back, and a buffer is a record exactly if it is the encoding of what a plain reading of its tables shows.
 fn layout(report: &mut Report, rounds: usize) {
-    for graph in limits::graphs() {
-        let back = (sizes(&graph), decode(&encode(&graph)), Graph::of_wide(&graph.to_rust()));
-        report.check("model: layout", &[], &(0, Ok(graph.clone()), graph), &back);
-    }
+    limits::graphs().iter().for_each(|graph| there_and_back(report, graph));
     let beyond: Vec<u32> = limits::graphs_beyond().iter().map(sizes).collect();
     report.check("model: layout", &[], &vec![12, 12, 13, 13, 11, 14, 14], &beyond);
     each_buffer(rounds, 70, |random, buffer| {
-        let graph = generate::graph(random);
-        let back = (sizes(&graph), decode(&encode(&graph)), Graph::of_wide(&graph.to_rust()));
-        report.check("model: layout", &[("record", Input::Bytes(&encode(&graph)))], &(0, Ok(graph.clone()), graph), &back);
+        there_and_back(report, &generate::graph(random));
         let expected = if buffer.len() != RECORD { 15 } else if is_encoding(buffer) { 0 } else { 16 };
         let number = decode(buffer).err().unwrap_or(0);
         report.check("model: layout", &[("record", Input::Bytes(buffer))], &expected, &number);
