@@ -1,4 +1,4 @@
-//! Measures the functions of `libgraph_name.a` against the Rust module `src/name.rs` of gbwt-rs, which is built as it stands, in one process.
+//! Measures the functions of `libgraph_name.a` against the Rust module `src/name.rs` of gbwt-rs, built as it stands, in one process.
 //!
 //! Each figure is the least time of many calls, ours and the Rust's in turn. A call is timed alone: its inputs are there (the Rust's
 //! header lines are already split, and a graph to be changed is already cloned), output buffers are not cleared beforehand, and what the
