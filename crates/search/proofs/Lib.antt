@@ -1,0 +1,4 @@
+pub mod PathOrder
+pub mod Leaving
+pub mod First
+pub mod Short
