@@ -11,8 +11,8 @@ use lib.ListN.{length}
 use Rattle.model.specs.Bytes.{Bytes, sameBytes}
 use Rattle.model.specs.Record.{comparePairs}
 use Rattle.model.specs.Path.{Step, Relations, leaving, firstOf, firstPath, pathFrom}
-use Rattle.model.specs.Statements.{Ascending, Relation, IsPath, StepBefore, Before}
-use Rattle.text.proofs.Order.{sameBytes-true, sameBytes-refl}
+use Rattle.model.specs.Statements.{Ascending, Relation, IsPath, Before}
+use Rattle.text.proofs.Order.{sameBytes-true}
 use Rattle.search.proofs.PathOrder.{NotLater}
 use Rattle.search.proofs.Leaving.{related, Rising, leaving-members, leaving-rising}
 
@@ -123,10 +123,13 @@ module _ (r : Relations) (subgraphs : Ascending comparePairs (r .subgraphs)) (tr
   Among k more a (some ss) = IsPath (related r) a ss b × ((ts : List Step) → IsPath (related r) a ts b → k ≤ length ts → NotLater ss ts)
 
   hit : (k more : ℕ) (a : Bytes) (ss : List Step) → FirstPath (related r) k a b ss → Among k more a (some ss)
-  hit k more a ss f = (f .path, λ ts q l. ⊎-elim
-      (λ (e : k ≡ length ts). ⊎-elim inl (λ (d : Before ss ts). inr (inr (f .long ∙ e, d))) (f .first ts q (sym e)))
-      (λ (m : k < length ts). inr (inl (omega (arith, f .long))))
-      (eq-or-lt-of-le l))
+  hit k more a ss f = (
+    f .path,
+    λ ts q l. ⊎-elim
+        (λ (e : k ≡ length ts). ⊎-elim inl (λ (d : Before ss ts). inr (inr (f .long ∙ e, d))) (f .first ts q (sym e)))
+        (λ (m : k < length ts). inr (inl (omega (arith, f .long))))
+        (eq-or-lt-of-le l),
+  )
 
   pub pathFrom-right : (k more : ℕ) (a : Bytes) → Among k more a (pathFrom r k more b a)
   unfolding pathFrom

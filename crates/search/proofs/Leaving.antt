@@ -6,7 +6,7 @@ use mathlib.Core.List.{List, [], _∷_, _++_, List·Memᴰ, List·Memᴰ·head, 
 use Rattle.model.specs.declared.Order.the-variants.{Less}
 use Rattle.model.specs.declared.Kind.{Kind}
 use Rattle.model.specs.declared.Kind.the-variants.{Subgraph, Translation}
-use Rattle.model.specs.Bytes.{Bytes, thenBy, compareBytes, sameBytes}
+use Rattle.model.specs.Bytes.{Bytes, compareBytes, sameBytes}
 use Rattle.model.specs.Record.{Pair, comparePairs}
 use Rattle.model.specs.Path.{Step, Relations, leavingBy, leaving}
 use Rattle.model.specs.Statements.{Ascending, Relation, KindBefore, StepBefore}
@@ -84,8 +84,8 @@ module _ (k : Kind) (a : Bytes) where
           → Rising (cond t (record { kind = k; next = p .to } ∷ leavingBy k ps a) (leavingBy k ps a))
       go true e rest = (
         λ t m.
-        let w = leavingBy-step ps t m in
-        rw (w .0) (same-kind k _ (below-next p (t .next) (sameBytes-true (p .from) a .0 e) (ascending-below pairs-order p ps h _ (w .1)))),
+            let w = leavingBy-step ps t m in
+            rw (w .0) (same-kind k _ (below-next p (t .next) (sameBytes-true (p .from) a .0 e) (ascending-below pairs-order p ps h _ (w .1)))),
         rest,
       )
       go false e rest = rest
