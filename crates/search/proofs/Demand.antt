@@ -18,7 +18,7 @@ use Rattle.model.specs.Outcome.{refusal, found, answered, nameOr, sized, ask, a
 use Rattle.model.specs.Statements.{Ascending, Relation, bySubgraph, byEither, RightBetween, Right, AnswersRight, Local, Demand3}
 use Rattle.text.proofs.Order.{pairs-order}
 use Rattle.text.proofs.Ascending.{insertAll-ascending, insertAll-members}
-use Rattle.search.proofs.Leaving.{pairOf, related}
+use Rattle.search.specs.Tables.{pairOf, related}
 use Rattle.search.proofs.Right.{RightPath, SameReach, right-local, bestPath-right}
 use Rattle.search.proofs.Decode.{Decodes, decodes}
 

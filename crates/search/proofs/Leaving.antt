@@ -10,16 +10,9 @@ use Rattle.model.specs.Bytes.{Bytes, compareBytes, sameBytes}
 use Rattle.model.specs.Record.{Pair, comparePairs}
 use Rattle.model.specs.Path.{Step, Relations, leavingBy, leaving}
 use Rattle.model.specs.Statements.{Ascending, Relation, KindBefore, StepBefore}
+use Rattle.search.specs.Tables.{pairOf, related}
 use Rattle.text.proofs.Order.{bytes-order, pairs-order, sameBytes-true}
 use Rattle.text.proofs.Ascending.{ascending-tail, ascending-below}
-
-abbrev pub pairOf : Bytes → Bytes → Pair
-pairOf a n = record { from = a; to = n }
-
--- what the lists of a question stand for
-abbrev pub related : Relations → Relation
-related r Subgraph a n = List·Memᴰ (pairOf a n) (r .subgraphs)
-related r Translation a n = List·Memᴰ (pairOf a n) (r .translations)
 
 -- every step before all later ones
 abbrev pub Rising : List Step → Type 0

@@ -5,3 +5,4 @@ pub mod Short
 pub mod Right
 pub mod Decode
 pub mod Demand
+pub mod Visit

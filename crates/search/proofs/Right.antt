@@ -14,7 +14,7 @@ use Rattle.model.specs.Record.{Pair, comparePairs}
 use Rattle.model.specs.Path.{Step, Relations, pathFrom, bestPath}
 use Rattle.model.specs.Statements.{Ascending, Relation, IsPath, Best, Reachable}
 use Rattle.search.proofs.PathOrder.{best-unique}
-use Rattle.search.proofs.Leaving.{related}
+use Rattle.search.specs.Tables.{related}
 use Rattle.search.proofs.First.{Among, pathFrom-right}
 use Rattle.search.proofs.Short.{short-path}
 
