@@ -12,6 +12,7 @@ use Rattle.model.specs.Path.{Step, Relations, leavingBy, leaving}
 use Rattle.model.specs.Statements.{Ascending, Relation, KindBefore, StepBefore}
 use Rattle.search.specs.Tables.{pairOf, related}
 use Rattle.text.proofs.Order.{bytes-order, pairs-order, sameBytes-true}
+use Rattle.search.proofs.PathOrder.{same-kind}
 use Rattle.text.proofs.Ascending.{ascending-tail, ascending-below}
 
 -- every step before all later ones
@@ -25,10 +26,6 @@ rising-append (x ∷ xs) ys a b h = (
   λ t m. ⊎-elim (a .0 t) (h x t (List·Memᴰ·head refl)) (List·Memᴰ·append-cases xs m),
   rising-append xs ys (a .1) b (λ s t m n. h s t (List·Memᴰ·tail m) n),
 )
-
-same-kind : (k : Kind) (P : Type 0) → P → KindBefore k k P
-same-kind Subgraph P h = h
-same-kind Translation P h = h
 
 -- ------------------------------------------------------------------ of one kind
 

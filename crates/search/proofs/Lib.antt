@@ -6,3 +6,6 @@ pub mod Right
 pub mod Decode
 pub mod Demand
 pub mod Visit
+pub mod Tree
+pub mod Shortest
+pub mod Progress

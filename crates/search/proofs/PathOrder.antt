@@ -25,6 +25,10 @@ NotLater ss ts = (ts ≡ ss) ⊎ Earlier ss ts
 
 -- ------------------------------------------------------------------ steps
 
+pub same-kind : (k : Kind) (P : Type 0) → P → KindBefore k k P
+same-kind Subgraph P h = h
+same-kind Translation P h = h
+
 kind-irrefl : (k : Kind) (P : Type 0) → (P → ⊥) → KindBefore k k P → ⊥
 kind-irrefl Subgraph P f h = f h
 kind-irrefl Translation P f h = f h
