@@ -9,3 +9,6 @@ pub mod Visit
 pub mod Tree
 pub mod Shortest
 pub mod Progress
+pub mod Walk
+pub mod State
+pub mod Turn
