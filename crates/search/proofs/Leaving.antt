@@ -9,7 +9,7 @@ use Rattle.model.specs.declared.Kind.the-variants.{Subgraph, Translation}
 use Rattle.model.specs.Bytes.{Bytes, compareBytes, sameBytes}
 use Rattle.model.specs.Record.{Pair, comparePairs}
 use Rattle.model.specs.Path.{Step, Relations, leavingBy, leaving}
-use Rattle.model.specs.Statements.{Ascending, Relation, KindBefore, StepBefore}
+use Rattle.model.specs.Statements.{Ascending, StepBefore}
 use Rattle.search.specs.Tables.{pairOf, related}
 use Rattle.text.proofs.Order.{bytes-order, pairs-order, sameBytes-true}
 use Rattle.search.proofs.PathOrder.{same-kind}

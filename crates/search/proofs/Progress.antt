@@ -1,15 +1,14 @@
 -- How far a search is: the steps of the places before h are done, and of place h those of kind K before place E of the table,
 -- with all of an earlier kind.
-use mathlib.Core.Path.{_≡_, refl, sym, ap, _∙_}
+use mathlib.Core.Path.{_≡_, refl}
 use mathlib.Core.Logic.{_⊎_, inl, inr, ⊎-elim}
 use Prim.Native.Nat.{ℕ, _+_, _≤_, _<_}
 use native.Mathlib.Nat.{eq-or-lt-of-le}
 use native.Mathlib.Omega.{arith}
 use lib.ListN.{getD}
-use Rattle.model.specs.declared.Order.the-variants.{Less}
 use Rattle.model.specs.declared.Kind.{Kind}
 use Rattle.model.specs.declared.Kind.the-variants.{Subgraph, Translation}
-use Rattle.model.specs.Bytes.{Bytes, compareBytes}
+use Rattle.model.specs.Bytes.{Bytes}
 use Rattle.model.specs.Path.{Relations}
 use Rattle.model.specs.Statements.{KindBefore, StepBefore}
 use Rattle.search.specs.Tables.{Leaves, Made, Graph, edgesOf, target, Holds}
@@ -49,10 +48,13 @@ module _ (G : Graph) (size : ℕ) (name : ℕ → Bytes) (r : Relations) (holds 
 
   pub one-more : More G name node (upTo h K E) h K E (upTo h K (E + 1))
   one-more = record {
-    before = λ p k e m d. ⊎-elim inl (λ (w : (p ≡ h) × KindBefore k K (e < E)). inr (w .0, ⊎-elim
-        (λ (q : (k ≡ K) × (e < E)). earlier-step k e (q .0) (q .1) (rw (w .0) at m))
-        (λ (q : (S : Type 0) → KindBefore k K S). inl (q _))
-        (kinds-cases k K (e < E) (w .1)))) d;
+    before = λ p k e m d. ⊎-elim inl (λ (w : (p ≡ h) × KindBefore k K (e < E)). inr (
+      w .0,
+      ⊎-elim
+          (λ (q : (k ≡ K) × (e < E)). earlier-step k e (q .0) (q .1) (rw (w .0) at m))
+          (λ (q : (S : Type 0) → KindBefore k K S). inl (q _))
+          (kinds-cases k K (e < E) (w .1)),
+    )) d;
     up = λ p k e d. ⊎-elim inl (λ (w : (p ≡ h) × KindBefore k K (e < E)). inr (w .0, kinds-map k K (e < E) (e < E + 1) (λ l. omega arith) (w .1))) d;
     down = λ p k e d. ⊎-elim (λ (w : p < h). inl (inl w)) (λ (w : (p ≡ h) × KindBefore k K (e < E + 1)). ⊎-elim
         (λ (q : (k ≡ K) × (e < E + 1)). ⊎-elim
@@ -70,12 +72,15 @@ module _ (G : Graph) (node : ℕ → ℕ) (h : ℕ) where
   -- no step leaves before the row begins
   pub row-starts : (K : Kind) (E : ℕ) → E ≤ getD (edgesOf G K .starts) (node h) 0
       → (p : ℕ) (k : Kind) (e : ℕ) → Leaves (edgesOf G k) (node p) e → upTo h K E p k e → upTo h K 0 p k e
-  row-starts K E l p k e m d = ⊎-elim inl (λ (w : (p ≡ h) × KindBefore k K (e < E)). inr (w .0, ⊎-elim
-      (λ (q : (k ≡ K) × (e < E)).
-      let s : getD (edgesOf G K .starts) (node h) 0 ≤ e = rw (← w .0, ← q .0) (m .0) in
-      absurd (omega (arith, q .1)))
-      (λ (q : (S : Type 0) → KindBefore k K S). q (e < 0))
-      (kinds-cases k K (e < E) (w .1)))) d
+  row-starts K E l p k e m d = ⊎-elim inl (λ (w : (p ≡ h) × KindBefore k K (e < E)). inr (
+    w .0,
+    ⊎-elim
+        (λ (q : (k ≡ K) × (e < E)).
+        let s : getD (edgesOf G K .starts) (node h) 0 ≤ e = rw (← w .0, ← q .0) (m .0) in
+        absurd (omega (arith, q .1)))
+        (λ (q : (S : Type 0) → KindBefore k K S). q (e < 0))
+        (kinds-cases k K (e < E) (w .1)),
+  )) d
 
   pub row-opens : (K : Kind) (E : ℕ) (p : ℕ) (k : Kind) (e : ℕ) → upTo h K 0 p k e → upTo h K E p k e
   row-opens K E p k e d = ⊎-elim inl (λ (w : (p ≡ h) × KindBefore k K (e < 0)). inr (w .0, kinds-map k K (e < 0) (e < E) (λ l. absurd (omega arith)) (w .1))) d

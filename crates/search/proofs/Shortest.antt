@@ -1,17 +1,16 @@
 -- What the search has found is best: once all steps of the places before h are done, the path to place h is the best one, and
 -- where there is no place h every name that has a path is found.
-use mathlib.Core.Path.{_≡_, refl, sym, ap, _∙_}
+use mathlib.Core.Path.{_≡_, refl, sym, ap}
 use mathlib.Core.Logic.{_⊎_, inl, inr, ⊎-elim}
 use mathlib.Core.List.{List, [], _∷_, _++_, append-nil}
 use Prim.Native.Nat.{ℕ, _≤_, _<_}
 use native.Mathlib.Nat.{eq-or-lt-of-le}
 use native.Mathlib.Decide.{decLt}
 use native.Mathlib.Omega.{arith}
-use lib.ListN.{length, length-append}
+use lib.ListN.{length-append}
 use lib.Seq.{append-snoc}
-use Rattle.model.specs.declared.Order.the-variants.{Less}
 use Rattle.model.specs.declared.Kind.{Kind}
-use Rattle.model.specs.Bytes.{Bytes, compareBytes}
+use Rattle.model.specs.Bytes.{Bytes}
 use Rattle.model.specs.Path.{Step, Relations}
 use Rattle.model.specs.Statements.{IsPath, Best}
 use Rattle.text.proofs.Order.{bytes-order}

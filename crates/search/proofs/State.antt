@@ -1,9 +1,8 @@
 -- The tables of the search all along: where each node is found, and that the paths which they spell are those of the search.
 use mathlib.Core.Path.{_≡_, refl, sym, ap, _∙_}
-use mathlib.Core.Logic.{_⊎_, inl, inr, ⊎-elim}
-use mathlib.Core.Bool.{Bool, true, false}
+use mathlib.Core.Logic.{inl, inr, ⊎-elim}
 use mathlib.Core.List.{List, [], _∷_, _++_}
-use Prim.Native.Nat.{ℕ, zero, suc, _+_, _-_, _≤_, _<_}
+use Prim.Native.Nat.{ℕ, _+_, _-_, _≤_, _<_}
 use native.Mathlib.Decide.{ℕ-discrete}
 use native.Mathlib.Omega.{arith}
 use lib.ListN.{length, getD, set, length-set}
@@ -11,13 +10,13 @@ use lib.Seq.{getD-set-same, getD-set-other}
 use Rattle.model.specs.declared.Kind.{Kind}
 use Rattle.model.specs.declared.Kind.the-variants.{Subgraph, Translation}
 use Rattle.model.specs.Bytes.{Bytes}
-use Rattle.model.specs.Path.{Step, Relations, kindNumber}
+use Rattle.model.specs.Path.{Relations, kindNumber}
 use Rattle.search.specs.Tables.{Leaves, Made, Graph, edgesOf, target, Holds}
-use Rattle.search.specs.Queue.{Queue, queued, visit, zeros, Room, kindOf, walk}
+use Rattle.search.specs.Queue.{Queue, queued, visit, zeros, Room, kindOf}
 use Rattle.search.proofs.Visit.{zeros-set, zeros-all, pushed, visit-new, visit-old}
 use Rattle.search.proofs.Tree.{Progress, stepAt, More, Tree, below, tree-start, tree-move, tree-agree, tree-skip, tree-push}
 use Rattle.search.proofs.Progress.{upTo, one-more}
-use Rattle.search.proofs.Walk.{pathTo, lastStep, walk-first, walk-step, walk-agree}
+use Rattle.search.proofs.Walk.{pathTo, walk-first, walk-step, walk-agree}
 
 abbrev pub nodeAt : Queue → ℕ → ℕ
 nodeAt q j = getD (q .nodes) j 0

@@ -1,23 +1,18 @@
 -- A breadth-first search, as what holds of it all along: n nodes are found, node j is the one found j'th and `chain j` the path
 -- to it. The paths stand in their order, and each step that is done leads to a found node by a path that is no later.
-use mathlib.Core.Path.{_≡_, refl, sym, ap, _∙_}
+use mathlib.Core.Path.{_≡_, refl, sym, _∙_}
 use mathlib.Core.Logic.{_⊎_, inl, inr, ⊎-elim}
-use mathlib.Core.List.{List, [], _∷_, _++_, append-nil}
+use mathlib.Core.List.{List, [], _∷_, _++_}
 use Prim.Native.Nat.{ℕ, _+_, _≤_, _<_}
 use native.Mathlib.Nat.{eq-or-lt-of-le}
-use native.Mathlib.Decide.{decLt}
 use native.Mathlib.Omega.{arith}
-use lib.ListN.{length, length-append}
-use lib.Seq.{append-snoc}
-use Rattle.model.specs.declared.Order.the-variants.{Less}
+use lib.ListN.{length-append}
 use Rattle.model.specs.declared.Kind.{Kind}
-use Rattle.model.specs.Bytes.{Bytes, compareBytes}
+use Rattle.model.specs.Bytes.{Bytes}
 use Rattle.model.specs.Path.{Step, Relations}
-use Rattle.model.specs.Statements.{IsPath, StepBefore, Best}
-use Rattle.text.proofs.Order.{bytes-order}
-use Rattle.text.proofs.Ascending.{less-irrefl}
+use Rattle.model.specs.Statements.{IsPath, StepBefore}
 use Rattle.search.specs.Tables.{related, Leaves, Graph, edgesOf, target, Holds}
-use Rattle.search.proofs.PathOrder.{Earlier, NotLater, not-later-trans, earlier-trans, earlier-snoc, earlier-last, earlier-more, not-later-snoc, path-snoc}
+use Rattle.search.proofs.PathOrder.{Earlier, NotLater, earlier-snoc, earlier-last, path-snoc}
 
 pub below : (j n : ℕ) → j < n + 1 → (j < n) ⊎ (j ≡ n)
 below j n l = ⊎-elim inr inl (eq-or-lt-of-le (omega arith))

@@ -1,23 +1,23 @@
 -- One turn of the search: all steps that leave the node at place h, and what the search tells when it ends.
 use mathlib.Core.Path.{_≡_, refl, sym, ap, _∙_}
-use mathlib.Core.Logic.{_⊎_, inl, inr, ⊎-elim}
+use mathlib.Core.Logic.{inl, ⊎-elim}
 use mathlib.Core.List.{List, [], _∷_}
-use mathlib.Core.Option.{some, none}
+use mathlib.Core.Option.{none}
 use Prim.Native.Nat.{ℕ, zero, suc, _+_, _-_, _≤_, _<_}
 use native.Mathlib.Decide.{ℕ-discrete, decLt}
 use native.Mathlib.Numerals.{add-one}
 use native.Mathlib.Omega.{arith}
 use lib.ListN.{length, getD, set, length-set}
-use lib.Seq.{slice, slice-cons, slice-empty, getD-set-other}
+use lib.Seq.{slice, slice-cons, getD-set-other}
 use Rattle.model.specs.declared.Kind.{Kind}
 use Rattle.model.specs.declared.Kind.the-variants.{Subgraph, Translation}
 use Rattle.model.specs.Bytes.{Bytes}
 use Rattle.model.specs.Path.{Relations, kindNumber, bestPath}
 use Rattle.search.specs.declared.Place.the-variants.{Found, NotFound}
-use Rattle.search.specs.Tables.{related, nexts, Leaves, Made, Graph, edgesOf, target, Holds}
+use Rattle.search.specs.Tables.{related, nexts, Made, Graph, edgesOf, target, Holds}
 use Rattle.search.specs.Queue.{Queue, queued, visit, visitAll, Room, Ready, Told}
 use Rattle.search.proofs.Right.{RightPath, right-unique, bestPath-right}
-use Rattle.search.proofs.Visit.{pushed, visit-new, visit-old, slice-none}
+use Rattle.search.proofs.Visit.{visit-new, visit-old, slice-none}
 use Rattle.search.proofs.Shortest.{tree-best, tree-none}
 use Rattle.search.proofs.Tree.{Progress, below}
 use Rattle.search.proofs.Progress.{upTo, row-starts, row-opens, to-translations, from-subgraphs, to-next, from-last}
@@ -185,9 +185,9 @@ module _ (G : Graph) (a b size : ℕ) (q : Queue) (h : ℕ) (s : Searching G a b
       steps = λ i l m. s .state .steps i l (omega arith);
     },
     λ name r holds.
-    let holds′ : Holds G (length (q .places)) name r = rw (s .size-is) holds in
-    right-unique (related r) (name a) (name b) _ _ (right name r holds)
-    (rw is at (tree-best G _ name a r holds′ (nodeAt q) _ (q .count) _ (s .state .tree name r holds′) h all-done here once)),
+        let holds′ : Holds G (length (q .places)) name r = rw (s .size-is) holds in
+        right-unique (related r) (name a) (name b) _ _ (right name r holds)
+        (rw is at (tree-best G _ name a r holds′ (nodeAt q) _ (q .count) _ (s .state .tree name r holds′) h all-done here once)),
   )
     where
       once : (j : ℕ) → j < q .count → nodeAt q j ≡ nodeAt q h → j ≡ h

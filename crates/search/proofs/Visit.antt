@@ -1,12 +1,12 @@
 -- The visit of a row of targets, one at a time: what is left to visit, and the room that there is for it.
-use mathlib.Core.Path.{_≡_, refl, ap, _∙_}
+use mathlib.Core.Path.{_≡_, refl, ap}
 use mathlib.Core.List.{List, [], _∷_}
 use Prim.Native.Nat.{ℕ, zero, suc, _+_, _≤_, _<_, suc-le-suc}
 use native.Mathlib.Nat.{not-suc-le-zero, le-of-suc-le-suc}
 use native.Mathlib.Numerals.{add-one}
 use native.Mathlib.Omega.{arith}
 use lib.ListN.{length, getD, set, take, length-set, length-take, drop-of-length-le}
-use lib.Seq.{slice, slice-cons, length-take-le}
+use lib.Seq.{slice, slice-cons}
 use borrow.Author.Tests.{eq-eqb, ne-eqb}
 use Rattle.search.specs.Queue.{Queue, queued, visit, visitAll, zeros, Room, Ready}
 

@@ -1,9 +1,9 @@
 -- The path to a place, read back by the places before it.
-use mathlib.Core.Path.{_≡_, refl, sym, ap, _∙_}
+use mathlib.Core.Path.{_≡_, refl, ap}
 use mathlib.Core.List.{List, [], _∷_, _++_}
-use Prim.Native.Nat.{ℕ, zero, suc, _+_, _≤_, _<_}
+use Prim.Native.Nat.{ℕ, zero, suc, _≤_, _<_}
 use native.Mathlib.Omega.{arith}
-use lib.ListN.{length, getD}
+use lib.ListN.{getD}
 use Rattle.model.specs.Bytes.{Bytes}
 use Rattle.model.specs.Path.{Step}
 use Rattle.search.specs.Queue.{Queue, kindOf, walk}

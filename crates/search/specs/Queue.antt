@@ -13,7 +13,7 @@ use Rattle.model.specs.Bytes.{Bytes}
 use Rattle.model.specs.Path.{Step, Relations, bestPath}
 use Rattle.search.specs.declared.Place.{Place}
 use Rattle.search.specs.declared.Place.the-variants.{Found, NotFound}
-use Rattle.search.specs.Tables.{Graph, Holds}
+use Rattle.search.specs.Tables.{Made, Graph, Holds}
 
 pub record Queue : Type 0 where
   pub nodes : List ℕ
@@ -28,12 +28,12 @@ queued ns ps ks os n = record { nodes = ns; parents = ps; kinds = ks; places = o
 -- node w, met by a step of kind k from place h: a new one goes to the end
 abbrev pub visit : ℕ → ℕ → Queue → ℕ → Queue
 visit k h q w = cond (eqb (getD (q .places) w 0) 0) (record {
-    nodes = set (q .nodes) (q .count) w;
-    parents = set (q .parents) (q .count) h;
-    kinds = set (q .kinds) (q .count) k;
-    places = set (q .places) w (q .count + 1);
-    count = q .count + 1;
-  }) q
+  nodes = set (q .nodes) (q .count) w;
+  parents = set (q .parents) (q .count) h;
+  kinds = set (q .kinds) (q .count) k;
+  places = set (q .places) w (q .count + 1);
+  count = q .count + 1;
+}) q
 
 unfoldable pub visitAll : ℕ → ℕ → List ℕ → Queue → Queue
 visitAll k h [] q = q
@@ -58,6 +58,14 @@ pub record Ready (q : Queue) (h : ℕ) : Type 0 where
   pub found : q .count + zeros (q .places) ≡ length (q .places)
   pub here : h < q .count
   pub node : getD (q .nodes) h 0 < length (q .places)
+
+-- tables for a search from a to b: the relations, and room for every node
+pub record Searchable (G : Graph) (a b : ℕ) (q : Queue) : Type 0 where
+  pub subgraphs : Made (G .subgraphs) (length (q .places))
+  pub translations : Made (G .translations) (length (q .places))
+  pub room : Room q
+  pub from : a < length (q .places)
+  pub to : b < length (q .places)
 
 abbrev pub kindOf : ℕ → Kind
 kindOf k = cond (eqb k 0) Subgraph Translation

@@ -4,7 +4,7 @@ ghost use mathlib.Core.Path.{_≡_};
 ghost use Prim.Native.Nat.{ℕ, _<_};
 ghost use lib.ListN.{length, getD};
 ghost use Rattle.search.specs.Tables.{edges, graph, nexts, Made};
-ghost use Rattle.search.specs.Queue.{queued, visitAll, Room, Ready, Told};
+ghost use Rattle.search.specs.Queue.{queued, visitAll, Ready, Searchable, Told};
 
 // No node is found.
 fn clear(places: &mut [u16])
@@ -70,10 +70,7 @@ pub fn search(
     kinds: &mut [u8],
     places: &mut [u16],
 ) -> Place
-    requires { ⌜ Made (edges (now «sub_starts») (now «sub_ends») (now «sub_targets»)) (length (now places)) ⌝ }
-    requires { ⌜ Made (edges (now «trans_starts») (now «trans_ends») (now «trans_targets»)) (length (now places)) ⌝ }
-    requires { ⌜ Room (queued (now nodes) (now parents) (now kinds) (now places) 0) ⌝ }
-    requires { ⌜ (a < length (now places)) × (b < length (now places)) ⌝ }
+    requires { ⌜ Searchable (graph (edges (now «sub_starts») (now «sub_ends») (now «sub_targets»)) (edges (now «trans_starts») (now «trans_ends») (now «trans_targets»))) a b (queued (now nodes) (now parents) (now kinds) (now places) 0) ⌝ }
     ensures { λ r. ⌜ Told (graph (edges (now («sub_starts» .entry)) (now («sub_ends» .entry)) (now («sub_targets» .entry))) (edges (now («trans_starts» .entry)) (now («trans_ends» .entry)) (now («trans_targets» .entry)))) (length (now (places .entry))) a b (now (nodes .exit)) (now (parents .exit)) (now (kinds .exit)) r ⌝ }
 {
     clear(places);
@@ -85,8 +82,30 @@ pub fn search(
         if nodes[h] as usize == b {
             return Place::Found(h);
         }
-        n = expand(sub_starts, sub_ends, sub_targets, 0, h, nodes, parents, kinds, places, n);
-        n = expand(trans_starts, trans_ends, trans_targets, 1, h, nodes, parents, kinds, places, n);
+        n = expand(
+            sub_starts,
+            sub_ends,
+            sub_targets,
+            0,
+            h,
+            nodes,
+            parents,
+            kinds,
+            places,
+            n,
+        );
+        n = expand(
+            trans_starts,
+            trans_ends,
+            trans_targets,
+            1,
+            h,
+            nodes,
+            parents,
+            kinds,
+            places,
+            n,
+        );
         h += 1;
     }
     Place::NotFound

@@ -1,15 +1,12 @@
 -- What is left of the row of targets is visited.
-use mathlib.Core.Path.{_≡_, sym, _∙_}
-use Prim.Native.Nat.{ℕ, _-_, _≤_, _<_}
-use lib.ListN.{length, getD, length-set}
+use Prim.Native.Nat.{_-_, _≤_, _<_}
+use lib.ListN.{length, getD}
 use denote.Ref.{now}
 use Rattle.search.specs.Queue.{queued}
 use Rattle.search.proofs.Visit.{Visiting, visiting-start, visiting-end, visiting-room, visiting-old, visiting-new}
 use native.Mathlib.Omega.{arith}
 use Rattle.search.proofs.breadth.expand.Statement.{statement}
 use Rattle.search.proofs.breadth.expand.Tie as tie
-use Rattle.search.proofs.breadth.expand.Reads as reads
-use Rattle.search.proofs.breadth.expand.Lts as lts
 
 abbrev Inv-loop : tie.InvT-loop
 Inv-loop starts ends targets kind h nodes₀ parents₀ kinds₀ places₀ n v end e₀ count₀ nodes parents kinds places e count =
