@@ -15,12 +15,12 @@ use Rattle.model.specs.Record.{Pair, GraphName, insertAll, comparePairs}
 use Rattle.model.specs.Layout.{decode}
 use Rattle.model.specs.Path.{Step, Relations, subgraphRelations, allRelations, between, subgraphPath, fullPath, bestPath, pathBytes}
 use Rattle.model.specs.Outcome.{refusal, found, answered, nameOr, sized, ask, askSubgraph, askFull}
-use Rattle.model.specs.Statements.{Ascending, Relation, bySubgraph, byEither, RightBetween, Right, AnswersRight, Local, Demand3}
+use Rattle.model.specs.Statements.{Ascending, Valid, Relation, bySubgraph, byEither, RightBetween, Right, AnswersRight, Local, Demand3}
 use Rattle.text.proofs.Order.{pairs-order}
 use Rattle.text.proofs.Ascending.{insertAll-ascending, insertAll-members}
 use Rattle.search.specs.Tables.{pairOf, related}
 use Rattle.search.proofs.Right.{RightPath, SameReach, right-local, bestPath-right}
-use Rattle.search.proofs.Decode.{Decodes, decodes}
+use Rattle.record.proofs.Laws.{decoded, decode-held}
 
 -- the lists of r are ascending and stand for R
 pub record StandsFor (r : Relations) (R : Relation) : Type 0 where
@@ -58,7 +58,7 @@ between-local r r′ R R′ s s′ (some a) (some b) h =
     right-local R R′ a b h (bestPath r a b) (bestPath r′ a b) (best-right r R s a b) (best-right r′ R′ s′ a b)
 
 module _ (relations : GraphName → GraphName → Relations) (by : GraphName → GraphName → Relation)
-    (stands : (b c : Bytes) (g h : GraphName) → Decodes b g → Decodes c h → StandsFor (relations g h) (by g h)) where
+    (stands : (g h : GraphName) → Valid g → Valid h → StandsFor (relations g h) (by g h)) where
   abbrev path : GraphName → GraphName → Option (List Step)
   path g h = between (relations g h) (g .name) (h .name)
 
@@ -66,25 +66,25 @@ module _ (relations : GraphName → GraphName → Relations) (by : GraphName →
       → ask path b c room ≡ answered (nameOr (g .name)) (path g h)
   asked b c g h room d e n =
       let q : ask path b c room ≡ sized room (answered (nameOr (g .name)) (path g h)) =
-      rw (eq-eqb (length b) 32768 (decodes b g d .size), eq-eqb (length c) 32768 (decodes c h e .size), d, e) in
+      rw (eq-eqb (length b) 32768 (decode-held b g d .long), eq-eqb (length c) 32768 (decode-held c h e .long), d, e) in
       q ∙ whole room (nameOr (g .name)) (path g h) (λ z. n (q ∙ z))
 
   answers-right : AnswersRight (ask path) by
   answers-right b c g h room d e n =
       rw (asked b c g h room d e n)
-      (right-answer (relations g h) (by g h) (stands b c g h (decodes b g d) (decodes c h e)) (g .name) (h .name))
+      (right-answer (relations g h) (by g h) (stands g h (decoded b g d .0) (decoded c h e .0)) (g .name) (h .name))
 
   answers-local : Local (ask path) by
   answers-local b c b′ c′ g h g′ h′ room room′ d e d′ e′ m n same k k′ =
-      let s = stands b c g h (decodes b g d) (decodes c h e) in
-      let s′ = stands b′ c′ g′ h′ (decodes b′ g′ d′) (decodes c′ h′ e′) in
+      let s = stands g h (decoded b g d .0) (decoded c h e .0) in
+      let s′ = stands g′ h′ (decoded b′ g′ d′ .0) (decoded c′ h′ e′ .0) in
       let p = between-local (relations g h) (relations g′ h′) (by g h) (by g′ h′) s s′ (g .name) (h .name) same in
       asked b c g h room d e k ∙ ap (answered (nameOr (g .name))) p
       ∙ rw (m, n) (sym (asked b′ c′ g′ h′ room′ d′ e′ k′))
 
 -- ------------------------------------------------------------------ both questions
 
-module _ (b c : Bytes) (g h : GraphName) (d : Decodes b g) (e : Decodes c h) where
+module _ (g h : GraphName) (d : Valid g) (e : Valid h) where
   union : (ps qs : List Pair) (p : Pair) → List·Memᴰ p (insertAll comparePairs qs ps) ↔ List·Memᴰ p ps ⊎ List·Memᴰ p qs
   union ps qs p =
       let i = insertAll-members pairs-order qs ps p in

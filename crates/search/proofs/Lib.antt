@@ -3,7 +3,6 @@ pub mod Leaving
 pub mod First
 pub mod Short
 pub mod Right
-pub mod Decode
 pub mod Demand
 pub mod Visit
 pub mod Tree
