@@ -11,3 +11,4 @@ pub mod Progress
 pub mod Walk
 pub mod State
 pub mod Turn
+pub mod PathBytes

@@ -177,12 +177,16 @@ module _ (G : Graph) (a b size : ℕ) (q : Queue) (h : ℕ) (s : Searching G a b
   pub told-found : h < q .count → nodeAt q h ≡ b → Told G size a b (q .nodes) (q .parents) (q .kinds) (Found h)
   told-found here is = (
     record {
-      within = omega (arith, s .state .found, s .state .room .nodes);
+      back = record {
+        nodes-long = omega (arith, s .state .found, s .state .room .nodes);
+        parents-long = omega (arith, s .state .found, s .state .room .parents);
+        kinds-long = omega (arith, s .state .found, s .state .room .kinds);
+        inside = λ i l. rw (← s .size-is) (s .state .places .inside i (omega arith));
+        falls = λ i l m. s .state .falls i l (omega arith);
+        steps = λ i l m. s .state .steps i l (omega arith);
+      };
       first = s .first-is;
       last = is;
-      inside = λ i l. rw (← s .size-is) (s .state .places .inside i (omega arith));
-      falls = λ i l m. s .state .falls i l (omega arith);
-      steps = λ i l m. s .state .steps i l (omega arith);
     },
     λ name r holds.
         let holds′ : Holds G (length (q .places)) name r = rw (s .size-is) holds in

@@ -1,9 +1,9 @@
 -- The path to a place, read back by the places before it.
 use mathlib.Core.Path.{_≡_, refl, ap}
 use mathlib.Core.List.{List, [], _∷_, _++_}
-use Prim.Native.Nat.{ℕ, zero, suc, _≤_, _<_}
+use Prim.Native.Nat.{ℕ, zero, suc, _+_, _≤_, _<_}
 use native.Mathlib.Omega.{arith}
-use lib.ListN.{getD}
+use lib.ListN.{length, getD, length-append}
 use Rattle.model.specs.Bytes.{Bytes}
 use Rattle.model.specs.Path.{Step}
 use Rattle.search.specs.Queue.{Queue, kindOf, walk}
@@ -58,3 +58,12 @@ walk-agree name nodes parents kinds nodes′ parents′ kinds′ n falls same (s
     let p : getD parents (suc j) 0 < suc j = falls (suc j) (omega arith) l in
     let s = same (suc j) l in
     rw (s .0, s .1, s .2, walk-agree name nodes parents kinds nodes′ parents′ kinds′ n falls same f (getD parents (suc j) 0) (omega arith))
+
+-- a step more than to the place before
+pub length-step : (name : ℕ → Bytes) (nodes parents kinds : List ℕ) (j : ℕ) → ((i : ℕ) → 0 < i → i ≤ j → getD parents i 0 < i) → 0 < j
+    → length (walk name nodes parents kinds j j) ≡ length (walk name nodes parents kinds (getD parents j 0) (getD parents j 0)) + 1
+length-step name nodes parents kinds j falls z =
+    rw (walk-step name nodes parents kinds (j + 1) (λ i l m. falls i l (omega arith)) j z (omega arith)) (simp length-append)
+
+pub length-first : (name : ℕ → Bytes) (nodes parents kinds : List ℕ) (j : ℕ) → j ≡ 0 → length (walk name nodes parents kinds j j) ≡ 0
+length-first name nodes parents kinds j z = rw (z, walk-first name nodes parents kinds 0)

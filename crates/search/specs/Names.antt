@@ -1,0 +1,38 @@
+-- The names of the nodes, as parts of two record buffers, and the bytes of a path read back. Assumes nothing.
+use mathlib.Core.Path.{_≡_}
+use mathlib.Core.Bool.{cond}
+use mathlib.Core.List.{List, [], _∷_, _++_}
+use Prim.Native.Nat.{ℕ, _+_, _-_, _*_, _≤_, _<_}
+use lib.ListN.{length, getD}
+use lib.Dec.{eqb}
+use Rattle.model.specs.Bytes.{Bytes}
+use Rattle.model.specs.Numbers.{le16}
+use Rattle.model.specs.Layout.{nameAt}
+use Rattle.model.specs.Path.{Step, kindNumber}
+
+-- two records, and by node its place in each plus 1, or 0 where the record does not hold its name
+pub record Names : Type 0 where
+  pub first : Bytes
+  pub second : Bytes
+  pub firsts : List ℕ
+  pub seconds : List ℕ
+
+abbrev pub naming : Bytes → Bytes → List ℕ → List ℕ → Names
+naming b c ps qs = record { first = b; second = c; firsts = ps; seconds = qs }
+
+-- the name of node v, from the first record that holds it
+unfoldable pub nameOf : Names → ℕ → Bytes
+nameOf ns v = cond (eqb (getD (ns .firsts) v 0) 0) (nameAt (ns .second) (getD (ns .seconds) v 0 - 1)) (nameAt (ns .first) (getD (ns .firsts) v 0 - 1))
+
+-- the entries of n nodes can be read
+pub record Readable (ns : Names) (n : ℕ) : Type 0 where
+  pub firsts : length (ns .firsts) ≡ n
+  pub seconds : length (ns .seconds) ≡ n
+  pub in-first : (v : ℕ) → v < n → 8 + 4 * getD (ns .firsts) v 0 ≤ length (ns .first)
+  pub in-second : (v : ℕ) → v < n → 8 + 4 * getD (ns .seconds) v 0 ≤ length (ns .second)
+  pub held : (v : ℕ) → v < n → getD (ns .firsts) v 0 ≡ 0 → 0 < getD (ns .seconds) v 0
+
+-- the entries of a path's names, with this number in the last one for its kind
+unfoldable pub entriesWith : ℕ → Bytes → List Step → Bytes
+entriesWith k a [] = le16 (length a) ++ le16 k
+entriesWith k a (s ∷ ss) = le16 (length a) ++ le16 (kindNumber (s .kind)) ++ entriesWith k (s .next) ss
