@@ -12,3 +12,4 @@ pub mod Walk
 pub mod State
 pub mod Turn
 pub mod PathBytes
+pub mod Joined

@@ -180,10 +180,12 @@ module _ (G : Graph) (a b size : ℕ) (q : Queue) (h : ℕ) (s : Searching G a b
       back = record {
         nodes-long = omega (arith, s .state .found, s .state .room .nodes);
         parents-long = omega (arith, s .state .found, s .state .room .parents);
-        kinds-long = omega (arith, s .state .found, s .state .room .kinds);
         inside = λ i l. rw (← s .size-is) (s .state .places .inside i (omega arith));
         falls = λ i l m. s .state .falls i l (omega arith);
-        steps = λ i l m. s .state .steps i l (omega arith);
+      };
+      kind-steps = record {
+        long = omega (arith, s .state .found, s .state .room .kinds);
+        small = λ i l m. s .state .steps i l (omega arith);
       };
       first = s .first-is;
       last = is;

@@ -78,17 +78,21 @@ walk name nodes parents kinds (suc f) (suc j) =
     walk name nodes parents kinds f (getD parents (suc j) 0) ++ (record { kind = kindOf (getD kinds (suc j) 0); next = name (getD nodes (suc j) 0) } ∷ [])
 
 -- from place j the places before lead back to the first; there are n nodes
-pub record Back (n : ℕ) (nodes parents kinds : List ℕ) (j : ℕ) : Type 0 where
+pub record Back (n : ℕ) (nodes parents : List ℕ) (j : ℕ) : Type 0 where
   pub nodes-long : j < length nodes
   pub parents-long : j < length parents
-  pub kinds-long : j < length kinds
   pub inside : (i : ℕ) → i ≤ j → getD nodes i 0 < n
   pub falls : (i : ℕ) → 0 < i → i ≤ j → getD parents i 0 < i
-  pub steps : (i : ℕ) → 0 < i → i ≤ j → getD kinds i 0 < 2
+
+-- up to place j the kinds are 0 or 1
+pub record Kinds (kinds : List ℕ) (j : ℕ) : Type 0 where
+  pub long : j < length kinds
+  pub small : (i : ℕ) → 0 < i → i ≤ j → getD kinds i 0 < 2
 
 -- node b stands at place j, and a at the first
 pub record Reached (n a b : ℕ) (nodes parents kinds : List ℕ) (j : ℕ) : Type 0 where
-  pub back : Back n nodes parents kinds j
+  pub back : Back n nodes parents j
+  pub kind-steps : Kinds kinds j
   pub first : getD nodes 0 0 ≡ a
   pub last : getD nodes j 0 ≡ b
 

@@ -18,7 +18,13 @@ fn name_at(b: &[u8], i: usize) -> &[u8]
 }
 
 // The name of node v: a part of the first record where that holds it, else of the second.
-pub(crate) fn name_of<'a>(first: &'a [u8], second: &'a [u8], firsts: &[u16], seconds: &[u16], v: usize) -> &'a [u8]
+pub(crate) fn name_of<'a>(
+    first: &'a [u8],
+    second: &'a [u8],
+    firsts: &[u16],
+    seconds: &[u16],
+    v: usize,
+) -> &'a [u8]
     requires { ⌜ Readable (naming (now first) (now second) (now firsts) (now seconds)) (length (now firsts)) × (v < length (now firsts)) ⌝ }
     ensures { λ r. ⌜ (now r ≡ nameOf (naming (now (first .entry)) (now (second .entry)) (now (firsts .entry)) (now (seconds .entry))) v) × (length (now r) < 65536) ⌝ }
 {

@@ -9,8 +9,8 @@ ghost use lib.ListN.{length, getD};
 ghost use Rattle.model.specs.Bytes.{Bytes, put};
 ghost use Rattle.model.specs.Numbers.{le16};
 ghost use Rattle.model.specs.Path.{pathBytes, pathBodies};
-ghost use Rattle.search.specs.Queue.{walk, Back};
-ghost use Rattle.search.specs.Names.{naming, nameOf, Readable, entriesWith};
+ghost use Rattle.search.specs.Queue.{walk};
+ghost use Rattle.search.specs.Names.{naming, entriesWith, pathBack, startName, Readback, Writable};
 
 // How many steps lead from the first place to place j.
 fn count_steps(parents: &[u16], j: usize) -> usize
@@ -33,4 +33,70 @@ fn put_entry(out: &mut [u8], step: usize, size: usize, kind: usize)
 {
     let at = write16(out, 2 + 4 * step, size);
     write16(out, at, kind);
+}
+
+// How long the names of the path to place j are together.
+fn bodies_length<'a>(
+    first: &'a [u8],
+    second: &'a [u8],
+    firsts: &[u16],
+    seconds: &[u16],
+    nodes: &[u16],
+    parents: &[u16],
+    j: usize,
+) -> usize
+    requires { ⌜ Readback (naming (now first) (now second) (now firsts) (now seconds)) (now nodes) (now parents) j ⌝ }
+    ensures { λ r. ⌜ (r ≤ 4294967296) × ((kinds : List ℕ) → r ≡ length (pathBodies (startName (naming (now (first .entry)) (now (second .entry)) (now (firsts .entry)) (now (seconds .entry))) (now (nodes .entry))) (pathBack (naming (now (first .entry)) (now (second .entry)) (now (firsts .entry)) (now (seconds .entry))) (now (nodes .entry)) (now (parents .entry)) kinds j))) ⌝ }
+{
+    let mut at = j;
+    let mut total = 0;
+    while at != 0 {
+        total += name_of(first, second, firsts, seconds, nodes[at] as usize).len();
+        at = parents[at] as usize;
+    }
+    total + name_of(first, second, firsts, seconds, nodes[0] as usize).len()
+}
+
+// Writes the names of the path to place j, this many steps from the first: their entries, the last with `kind`, and their bodies
+// from byte `at` on. Gives the place behind them.
+fn put_names<'a>(
+    first: &'a [u8],
+    second: &'a [u8],
+    firsts: &[u16],
+    seconds: &[u16],
+    nodes: &[u16],
+    parents: &[u16],
+    kinds: &[u8],
+    j: usize,
+    step: usize,
+    kind: usize,
+    out: &mut [u8],
+    at: usize,
+) -> usize
+    requires { ⌜ Writable (naming (now first) (now second) (now firsts) (now seconds)) (now nodes) (now parents) (now kinds) j step (now out) at ⌝ }
+    ensures { λ r. ⌜ (r ≡ at + length (pathBodies (startName (naming (now (first .entry)) (now (second .entry)) (now (firsts .entry)) (now (seconds .entry))) (now (nodes .entry))) (pathBack (naming (now (first .entry)) (now (second .entry)) (now (firsts .entry)) (now (seconds .entry))) (now (nodes .entry)) (now (parents .entry)) (now (kinds .entry)) j))) × (now (out .exit) ≡ put (put (now (out .entry)) 2 (entriesWith kind (startName (naming (now (first .entry)) (now (second .entry)) (now (firsts .entry)) (now (seconds .entry))) (now (nodes .entry))) (pathBack (naming (now (first .entry)) (now (second .entry)) (now (firsts .entry)) (now (seconds .entry))) (now (nodes .entry)) (now (parents .entry)) (now (kinds .entry)) j))) at (pathBodies (startName (naming (now (first .entry)) (now (second .entry)) (now (firsts .entry)) (now (seconds .entry))) (now (nodes .entry))) (pathBack (naming (now (first .entry)) (now (second .entry)) (now (firsts .entry)) (now (seconds .entry))) (now (nodes .entry)) (now (parents .entry)) (now (kinds .entry)) j))) ⌝ }
+{
+    let name = name_of(first, second, firsts, seconds, nodes[j] as usize);
+    if step == 0 {
+        put_entry(out, 0, name.len(), kind);
+        return copy(out, at, name);
+    }
+    let parent = parents[j] as usize;
+    let before = kinds[j] as usize;
+    let end = put_names(
+        first,
+        second,
+        firsts,
+        seconds,
+        nodes,
+        parents,
+        kinds,
+        parent,
+        step - 1,
+        before,
+        out,
+        at,
+    );
+    put_entry(out, step, name.len(), kind);
+    copy(out, end, name)
 }

@@ -1,15 +1,11 @@
 -- The entry gives where the body starts and how long it is.
-use mathlib.Core.Path.{_∙_, ap}
-use lib.ListN.{length, length-take}
+use mathlib.Core.Path.{_∙_}
+use lib.ListN.{length-take}
 use Rattle.model.specs.Layout.{nameAt}
 use native.Mathlib.Omega.{arith}
 use borrow.Author.Needs.{needs}
 use Rattle.search.proofs.names.name_at.Statement.{statement}
 use Rattle.search.proofs.names.name_at.Tie as tie
-use Rattle.search.proofs.names.name_at.Reads as reads
-use Rattle.search.proofs.names.name_at.Lts as lts
-use Rattle.text.proofs.part.Reads as part-reads
-use Rattle.text.proofs.read16.Reads as read16-reads
 
 mul-entry : tie.Need-mul-entry
 mul-entry c = search needs

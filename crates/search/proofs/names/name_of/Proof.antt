@@ -8,9 +8,6 @@ use native.Mathlib.Omega.{arith}
 use borrow.Author.Needs.{needs}
 use Rattle.search.proofs.names.name_of.Statement.{statement}
 use Rattle.search.proofs.names.name_of.Tie as tie
-use Rattle.search.proofs.names.name_of.Reads as reads
-use Rattle.search.proofs.names.name_of.Lts as lts
-use Rattle.search.proofs.names.name_at.Reads as name-at-reads
 
 abbrev start : tie.After-shared-slice-known5 → tie.Start
 start c = c .before .before .before .before .before

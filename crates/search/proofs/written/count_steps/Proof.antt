@@ -1,5 +1,5 @@
 -- The steps back so far, and those that are left.
-use mathlib.Core.Path.{_≡_, refl, _∙_}
+use mathlib.Core.Path.{_≡_}
 use mathlib.Core.List.{List}
 use Prim.Native.Nat.{ℕ, _+_, _≤_, _<_}
 use lib.ListN.{length, getD}
@@ -10,8 +10,6 @@ use Rattle.search.proofs.Walk.{length-first, length-step}
 use native.Mathlib.Omega.{arith}
 use Rattle.search.proofs.written.count_steps.Statement.{statement}
 use Rattle.search.proofs.written.count_steps.Tie as tie
-use Rattle.search.proofs.written.count_steps.Reads as reads
-use Rattle.search.proofs.written.count_steps.Lts as lts
 
 abbrev Inv-loop : tie.InvT-loop
 Inv-loop parents j at₀ n₀ at n = (n + at ≤ j) × ((name : ℕ → Bytes) (nodes kinds : List ℕ) → n + length (walk name nodes parents kinds at at) ≡ length (walk name nodes parents kinds j j))
@@ -46,7 +44,7 @@ loop-again c =
     let l = t .before .loop in (
       omega (arith, falls t, l .inv .0),
       λ name nodes kinds.
-      omega (arith, l .inv .1 name nodes kinds, length-step name nodes (now (t .before .before .args .parents)) kinds (l .at) (λ i p m. t .before .before .pre .1 i p (omega (arith, l .inv .0))) (omega (arith, t .loop-test .taken))),
+          omega (arith, l .inv .1 name nodes kinds, length-step name nodes (now (t .before .before .args .parents)) kinds (l .at) (λ i p m. t .before .before .pre .1 i p (omega (arith, l .inv .0))) (omega (arith, t .loop-test .taken))),
     )
 
 returns : tie.Need-returns Inv-loop μ-loop
@@ -54,7 +52,7 @@ returns c =
     let l = c .before .loop in (
       omega (arith, l .inv .0),
       λ name nodes kinds.
-      omega (arith, l .inv .1 name nodes kinds, length-first name nodes (now (c .before .before .args .parents)) kinds (l .at) (c .loop-test .left)),
+          omega (arith, l .inv .1 name nodes kinds, length-first name nodes (now (c .before .before .args .parents)) kinds (l .at) (c .loop-test .left)),
     )
 
 pub count-steps-spec : {M : Type 1} → statement M

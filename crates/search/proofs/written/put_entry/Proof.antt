@@ -8,9 +8,6 @@ use native.Mathlib.Omega.{arith}
 use borrow.Author.Needs.{needs}
 use Rattle.search.proofs.written.put_entry.Statement.{statement}
 use Rattle.search.proofs.written.put_entry.Tie as tie
-use Rattle.search.proofs.written.put_entry.Reads as reads
-use Rattle.search.proofs.written.put_entry.Lts as lts
-use Rattle.text.proofs.write16.Reads as write16-reads
 
 mul-write16 : tie.Need-mul-write16
 mul-write16 c = search needs
