@@ -1,18 +1,25 @@
 -- The names of a path written in two rows: the entries, and behind them the bodies. One name more goes behind each row.
 use mathlib.Core.Path.{_≡_, refl, sym, ap, _∙_}
+use mathlib.Core.Bool.{true, false}
 use mathlib.Core.List.{List, [], _∷_, _++_, append-assoc}
 use Prim.Native.Nat.{ℕ, _+_, _-_, _*_, _≤_, _<_}
+use native.Mathlib.Nat.{zero-add}
+use native.Mathlib.Numerals.{add-one}
 use native.Mathlib.Decide.{ℕ-discrete}
 use native.Mathlib.Omega.{arith}
 use lib.ListN.{length, take, drop, getD, length-append}
 use lib.Seq.{take-append-le, drop-append-le, take-take, take-add, drop-at, length-take-le}
+use lib.Dec.{leb}
+use borrow.Author.Tests.{le-leb, lt-leb}
 use Rattle.model.specs.Bytes.{Bytes, put}
 use Rattle.model.specs.Numbers.{le16}
-use Rattle.model.specs.Path.{Step, pathBodies}
+use Rattle.model.specs.Path.{Step, pathBodies, pathBytes}
+use Rattle.model.specs.Outcome.{found, sized, outputAfter}
 use Rattle.text.proofs.Put.{length-put, take-put, drop-put, put-append}
-use Rattle.search.specs.Names.{Names, nameOf, entriesWith, pathBack, startName, Writable}
+use Rattle.search.specs.Queue.{Kinds}
+use Rattle.search.specs.Names.{Names, nameOf, entriesWith, pathBack, startName, Readback, Writable}
 use Rattle.search.proofs.Walk.{lastStep, length-step, length-first}
-use Rattle.search.proofs.PathBytes.{entries-snoc, length-entries, bodies-snoc, number-kind, readback-parent, path-last, path-first, no-steps, bodies-step}
+use Rattle.search.proofs.PathBytes.{entries-snoc, length-entries, entries-path, bodies-snoc, length-path, number-kind, readback-parent, path-last, path-first, no-steps, bodiesTo, bodies-step}
 
 put-is : (out : Bytes) (at : ℕ) (t : Bytes) → put out at t ≡ take at out ++ (t ++ drop (at + length t) out)
 unfolding put
@@ -148,3 +155,52 @@ module _ (ns : Names) (nodes parents kinds : List ℕ) (j step : ℕ) (out : Byt
                 (rows-more out at (entriesWith (getD kinds j 0) start ss) (pathBodies start ss) (le16 (length name) ++ le16 kind) name (omega (arith, w .entries, w .steps)) (omega (arith, w .bodies, ap length is))
                 ∙ rw (before, entries-snoc kind start ss (lastStep (nameOf ns) nodes kinds j), bodies-snoc start ss (lastStep (nameOf ns) nodes kinds j), number-kind (getD kinds j 0) (w .kind-steps .small j (further-place z) (omega arith)), is)),
           )
+
+-- ------------------------------------------------------------------ the whole path
+
+put-front : (out t : Bytes) → put out 0 t ≡ t ++ drop (length t) out
+unfolding put
+put-front out t = rw zero-add
+
+-- the count, then the entries, then the bodies
+whole-path : (a : Bytes) (ss : List Step) (out : Bytes) → length (pathBytes a ss) ≤ length out
+    → put (put (put out 0 (le16 (length ss + 1))) 2 (entriesWith 2 a ss)) (6 + 4 * length ss) (pathBodies a ss) ≡ put out 0 (pathBytes a ss)
+unfolding pathBytes
+whole-path a ss out l =
+    let m = length-entries 2 a ss in
+    let n : 2 + length (entriesWith 2 a ss) + length (pathBodies a ss) ≤ length out = omega (arith, length-path a ss) in
+    let i : 6 + 4 * length ss ≡ 0 + length (le16 (length ss + 1) ++ entriesWith 2 a ss) = omega arith in
+    rw (put-append out 0 (le16 (length ss + 1)) (entriesWith 2 a ss) (omega arith), i)
+    (put-append out 0 (le16 (length ss + 1) ++ entriesWith 2 a ss) (pathBodies a ss) (omega arith) ∙ rw (add-one, entries-path a ss))
+
+module _ (ns : Names) (nodes parents kinds : List ℕ) (j : ℕ) (back : Readback ns nodes parents j) (steps : Kinds kinds j)
+    (step bodies : ℕ) (is : step ≡ length (pathBack ns nodes parents kinds j)) (low : step ≤ j) (size : bodies ≡ bodiesTo ns nodes parents kinds j)
+    (out : Bytes) where
+  abbrev bytes : Bytes
+  bytes = pathBytes (startName ns nodes) (pathBack ns nodes parents kinds j)
+
+  whole-size : length bytes ≡ 6 + 4 * step + bodies
+  whole-size = omega (arith, length-path (startName ns nodes) (pathBack ns nodes parents kinds j))
+
+  pub path-short : length out < 6 + 4 * step + bodies → (false ≡ leb (length bytes) (length out)) × (out ≡ outputAfter (sized (length out) (found bytes)) out)
+  path-short l = let e = lt-leb (length bytes) (length out) (omega (arith, whole-size)) in rw e (refl, refl)
+
+  module _ (room : 6 + 4 * step + bodies ≤ length out) (o₁ : Bytes) (count : o₁ ≡ put out 0 (le16 (step + 1))) where
+    pub path-writable : Writable ns nodes parents kinds j step o₁ (6 + 4 * step)
+    path-writable = record {
+      from = back;
+      kind-steps = steps;
+      steps = is;
+      few = omega (arith, back .small);
+      entries = omega arith;
+      bodies = omega (arith, ap length count, length-put out 0 (le16 (step + 1)) (omega arith));
+    }
+
+    pub path-written : (r : ℕ) (o₂ : Bytes) → Written ns nodes parents kinds j o₁ (6 + 4 * step) 2 r o₂
+        → (true ≡ leb (length bytes) (length out)) × (o₂ ≡ outputAfter (sized (length out) (found bytes)) out)
+    path-written r o₂ e =
+        let f = le-leb (length bytes) (length out) (omega (arith, whole-size)) in
+        let g = whole-path (startName ns nodes) (pathBack ns nodes parents kinds j) out (omega (arith, whole-size)) in
+        let h : put out 0 bytes ≡ outputAfter (sized (length out) (found bytes)) out = rw f (put-front out bytes) in
+        let i : o₂ ≡ put out 0 bytes = e .1 ∙ rw (count, is) g in
+        (sym f, i ∙ h)

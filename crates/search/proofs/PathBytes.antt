@@ -4,13 +4,19 @@ use mathlib.Core.List.{List, [], _∷_, _++_, append-assoc}
 use Prim.Native.Nat.{ℕ, zero, suc, _+_, _*_, _≤_, _<_}
 use native.Mathlib.Decide.{ℕ-discrete}
 use native.Mathlib.Omega.{arith}
-use lib.ListN.{length, getD, length-append}
+use lib.ListN.{length, getD, length-append, length-take, length-drop}
 use Rattle.model.specs.Bytes.{Bytes}
 use Rattle.model.specs.Numbers.{le16}
+use Rattle.model.specs.Layout.{nameAt}
 use Rattle.model.specs.Path.{Step, kindNumber, pathEntries, pathBodies, pathBytes}
 use Rattle.search.specs.Queue.{kindOf, Back}
 use Rattle.search.specs.Names.{Names, nameOf, entriesWith, pathBack, startName, Readback}
 use Rattle.search.proofs.Walk.{lastStep, walk-first, walk-step, length-step}
+
+-- a name is no longer than the buffer that it is a part of
+pub length-name : (b : Bytes) (i : ℕ) → length (nameAt b i) ≤ length b
+unfolding nameAt
+length-name b i = simp (length-take, length-drop) (omega arith)
 
 -- ------------------------------------------------------------------ entries and bodies
 

@@ -7,7 +7,7 @@ use lib.ListN.{length, getD}
 use lib.Dec.{eqb}
 use Rattle.model.specs.Bytes.{Bytes}
 use Rattle.model.specs.Numbers.{le16}
-use Rattle.model.specs.Layout.{nameAt}
+use Rattle.model.specs.Layout.{recordLength, nameAt}
 use Rattle.model.specs.Path.{Step, kindNumber, pathBodies}
 use Rattle.search.specs.Queue.{walk, Back, Kinds}
 
@@ -25,12 +25,14 @@ naming b c ps qs = record { first = b; second = c; firsts = ps; seconds = qs }
 unfoldable pub nameOf : Names → ℕ → Bytes
 nameOf ns v = cond (eqb (getD (ns .firsts) v 0) 0) (nameAt (ns .second) (getD (ns .seconds) v 0 - 1)) (nameAt (ns .first) (getD (ns .firsts) v 0 - 1))
 
--- the entries of n nodes can be read
+-- the names of n nodes can be read
 pub record Readable (ns : Names) (n : ℕ) : Type 0 where
-  pub firsts : length (ns .firsts) ≡ n
-  pub seconds : length (ns .seconds) ≡ n
-  pub in-first : (v : ℕ) → v < n → 8 + 4 * getD (ns .firsts) v 0 ≤ length (ns .first)
-  pub in-second : (v : ℕ) → v < n → 8 + 4 * getD (ns .seconds) v 0 ≤ length (ns .second)
+  pub first-size : length (ns .first) ≡ recordLength
+  pub second-size : length (ns .second) ≡ recordLength
+  pub firsts-size : length (ns .firsts) ≡ n
+  pub seconds-size : length (ns .seconds) ≡ n
+  pub in-first : (v : ℕ) → v < n → getD (ns .firsts) v 0 ≤ 512
+  pub in-second : (v : ℕ) → v < n → getD (ns .seconds) v 0 ≤ 512
   pub held : (v : ℕ) → v < n → getD (ns .firsts) v 0 ≡ 0 → 0 < getD (ns .seconds) v 0
 
 -- the entries of a path's names, with this number in the last one for its kind

@@ -1,21 +1,9 @@
 // The names of the nodes: parts of the two records.
-use text::part;
-use text::read16;
+use record::name_at;
 ghost use mathlib.Core.Path.{_≡_};
-ghost use Prim.Native.Nat.{_+_, _*_, _≤_, _<_};
+ghost use Prim.Native.Nat.{_<_};
 ghost use lib.ListN.{length};
-ghost use Rattle.model.specs.Layout.{nameAt};
 ghost use Rattle.search.specs.Names.{naming, nameOf, Readable};
-
-// The name at place i of a record.
-fn name_at(b: &[u8], i: usize) -> &[u8]
-    requires { ⌜ 8 + 4 * (i + 1) ≤ length (now b) ⌝ }
-    ensures { λ r. ⌜ (now r ≡ nameAt (now (b .entry)) i) × (length (now r) < 65536) ⌝ }
-{
-    let entry = 8 + 4 * i;
-    let bodies = 8 + 4 * (read16(b, 0) + read16(b, 4) + read16(b, 6));
-    part(b, bodies + read16(b, entry), read16(b, entry + 2))
-}
 
 // The name of node v: a part of the first record where that holds it, else of the second.
 pub(crate) fn name_of<'a>(

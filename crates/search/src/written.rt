@@ -6,10 +6,12 @@ ghost use mathlib.Core.Path.{_≡_};
 ghost use mathlib.Core.List.{List, _++_};
 ghost use Prim.Native.Nat.{ℕ, _+_, _*_, _≤_, _<_};
 ghost use lib.ListN.{length, getD};
+ghost use lib.Dec.{leb};
 ghost use Rattle.model.specs.Bytes.{Bytes, put};
 ghost use Rattle.model.specs.Numbers.{le16};
 ghost use Rattle.model.specs.Path.{pathBytes, pathBodies};
-ghost use Rattle.search.specs.Queue.{walk};
+ghost use Rattle.model.specs.Outcome.{found, sized, outputAfter};
+ghost use Rattle.search.specs.Queue.{walk, Kinds};
 ghost use Rattle.search.specs.Names.{naming, entriesWith, pathBack, startName, Readback, Writable};
 
 // How many steps lead from the first place to place j.
@@ -99,4 +101,42 @@ fn put_names<'a>(
     );
     put_entry(out, step, name.len(), kind);
     copy(out, end, name)
+}
+
+// Writes the bytes of the path to place j, if there is room for them; says whether there is.
+pub(crate) fn put_path<'a>(
+    first: &'a [u8],
+    second: &'a [u8],
+    firsts: &[u16],
+    seconds: &[u16],
+    nodes: &[u16],
+    parents: &[u16],
+    kinds: &[u8],
+    j: usize,
+    out: &mut [u8],
+) -> bool
+    requires { ⌜ Readback (naming (now first) (now second) (now firsts) (now seconds)) (now nodes) (now parents) j × Kinds (now kinds) j ⌝ }
+    ensures { λ r. ⌜ (r ≡ leb (length (pathBytes (startName (naming (now (first .entry)) (now (second .entry)) (now (firsts .entry)) (now (seconds .entry))) (now (nodes .entry))) (pathBack (naming (now (first .entry)) (now (second .entry)) (now (firsts .entry)) (now (seconds .entry))) (now (nodes .entry)) (now (parents .entry)) (now (kinds .entry)) j))) (length (now (out .entry)))) × (now (out .exit) ≡ outputAfter (sized (length (now (out .entry))) (found (pathBytes (startName (naming (now (first .entry)) (now (second .entry)) (now (firsts .entry)) (now (seconds .entry))) (now (nodes .entry))) (pathBack (naming (now (first .entry)) (now (second .entry)) (now (firsts .entry)) (now (seconds .entry))) (now (nodes .entry)) (now (parents .entry)) (now (kinds .entry)) j)))) (now (out .entry))) ⌝ }
+{
+    let step = count_steps(parents, j);
+    let at = 6 + 4 * step;
+    if out.len() < at + bodies_length(first, second, firsts, seconds, nodes, parents, j) {
+        return false;
+    }
+    write16(out, 0, step + 1);
+    put_names(
+        first,
+        second,
+        firsts,
+        seconds,
+        nodes,
+        parents,
+        kinds,
+        j,
+        step,
+        2,
+        out,
+        at,
+    );
+    true
 }
