@@ -13,3 +13,4 @@ pub mod State
 pub mod Turn
 pub mod PathBytes
 pub mod Joined
+pub mod Numbering

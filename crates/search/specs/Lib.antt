@@ -1,3 +1,4 @@
 pub mod Tables
 pub mod Queue
 pub mod Names
+pub mod Union

@@ -1,6 +1,7 @@
 // The path from one graph to another over the relations of two records: the first of those with fewest steps.
 mod breadth;
 mod names;
+mod union;
 mod written;
 
 pub use breadth::search;
