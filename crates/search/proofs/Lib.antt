@@ -14,3 +14,5 @@ pub mod Turn
 pub mod PathBytes
 pub mod Joined
 pub mod Numbering
+pub mod Merging
+pub mod Indexing

@@ -2,3 +2,4 @@ pub mod Tables
 pub mod Queue
 pub mod Names
 pub mod Union
+pub mod Keys

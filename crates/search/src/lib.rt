@@ -1,5 +1,6 @@
 // The path from one graph to another over the relations of two records: the first of those with fewest steps.
 mod breadth;
+mod edges;
 mod names;
 mod union;
 mod written;

@@ -1,0 +1,102 @@
+// The pairs of two records as tables of steps: by keys of two numbers, merged in order, and indexed by the first number.
+use text::read16;
+ghost use mathlib.Core.Path.{_≡_};
+ghost use Prim.Native.Nat.{ℕ, _+_, _/_, _%_, _≤_, _<_};
+ghost use lib.ListN.{length, getD};
+ghost use Rattle.search.specs.Keys.{keyAt, Paired, Rises, Merged, FirstNext, Indexed};
+
+// The keys of the pairs from byte `at` on, as many as there is room for, by the numbers of their places.
+pub(crate) fn read_keys(b: &[u8], at: usize, numbers: &[u16], keys: &mut [u32])
+    requires { ⌜ Paired (now b) at (now numbers) (length (now keys)) ⌝ }
+    ensures { λ _. ⌜ ((p : ℕ) → p < length (now (keys .exit)) → getD (now (keys .exit)) p 0 ≡ keyAt (now (b .entry)) at (now (numbers .entry)) p) ⌝ }
+{
+    let mut p = 0;
+    while p < keys.len() {
+        let from = read16(b, at + 4 * p);
+        let to = read16(b, at + 4 * p + 2);
+        keys[p] = numbers[from] as u32 * 65536 + numbers[to] as u32;
+        p += 1;
+    }
+}
+
+// Whether the next key is the first row's, with i and j of the rows' keys passed.
+fn first_next(a: &[u32], b: &[u32], i: usize, j: usize) -> bool
+    requires { ⌜ (i ≤ length (now a)) × (j ≤ length (now b)) × (i + j < length (now a) + length (now b)) ⌝ }
+    ensures { λ r. ⌜ FirstNext (now (a .entry)) (now (b .entry)) i j r ⌝ }
+{
+    if b.len() <= j {
+        return true;
+    }
+    if a.len() <= i {
+        return false;
+    }
+    if a[i] <= b[j] {
+        return true;
+    }
+    false
+}
+
+// Two sorted rows of keys as one.
+pub(crate) fn merge(a: &[u32], b: &[u32], out: &mut [u32])
+    requires { ⌜ Rises (now a) × Rises (now b) × (length (now out) ≡ length (now a) + length (now b)) ⌝ }
+    ensures { λ _. ⌜ Merged (now (a .entry)) (now (b .entry)) (now (out .exit)) ⌝ }
+{
+    let mut i = 0;
+    let mut j = 0;
+    let mut k = 0;
+    while k < out.len() {
+        if first_next(a, b, i, j) {
+            out[k] = a[i];
+            i += 1;
+            k += 1;
+        } else {
+            out[k] = b[j];
+            j += 1;
+            k += 1;
+        }
+    }
+}
+
+// The end of the keys of the first number v, from place e on.
+fn row_end(keys: &[u32], v: usize, e: usize) -> usize
+    requires { ⌜ e ≤ length (now keys) ⌝ }
+    ensures { λ r. ⌜ (e ≤ r) × (r ≤ length (now (keys .entry))) ⌝ }
+    ensures { λ r. ⌜ ((i : ℕ) → e ≤ i → i < r → getD (now (keys .entry)) i 0 / 65536 ≡ v) ⌝ }
+    ensures { λ r. ⌜ (r < length (now (keys .entry)) → getD (now (keys .entry)) r 0 / 65536 ≡ v → ⊥) ⌝ }
+{
+    let mut i = e;
+    while i < keys.len() {
+        if (keys[i] / 65536) as usize != v {
+            return i;
+        }
+        i += 1;
+    }
+    i
+}
+
+// Where each first number's keys begin and end.
+pub(crate) fn index(keys: &[u32], starts: &mut [u16], ends: &mut [u16])
+    requires { ⌜ Rises (now keys) × (length (now starts) ≡ length (now ends)) × (length (now keys) < 65536) ⌝ }
+    ensures { λ _. ⌜ Indexed (now (keys .entry)) (now (starts .exit)) (now (ends .exit)) ⌝ }
+{
+    let mut v = 0;
+    let mut e = 0;
+    while v < starts.len() {
+        starts[v] = e as u16;
+        e = row_end(keys, v, e);
+        ends[v] = e as u16;
+        v += 1;
+    }
+}
+
+// The second numbers of the keys.
+pub(crate) fn split_targets(keys: &[u32], targets: &mut [u16])
+    requires { ⌜ length (now targets) ≡ length (now keys) ⌝ }
+    ensures { λ _. ⌜ ((e : ℕ) → e < length (now (targets .exit)) → getD (now (targets .exit)) e 0 ≡ getD (now (keys .entry)) e 0 % 65536) ⌝ }
+{
+    let mut e = 0;
+    while e < targets.len() {
+        targets[e] = (keys[e] % 65536) as u16;
+        e += 1;
+    }
+}
