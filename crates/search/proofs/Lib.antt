@@ -16,3 +16,4 @@ pub mod Joined
 pub mod Numbering
 pub mod Merging
 pub mod Indexing
+pub mod Rows

@@ -8,6 +8,7 @@ use Prim.Native.Nat.{ℕ, _+_, _*_, _/_, _≤_, _<_}
 use lib.ListN.{length, getD}
 use Rattle.model.specs.Bytes.{Bytes}
 use Rattle.model.specs.Numbers.{number}
+use Rattle.search.specs.Tables.{Edges, Leaves}
 
 -- the p'th pair of places from byte `at` on, by the numbers of the places
 abbrev pub keyAt : Bytes → ℕ → List ℕ → ℕ → ℕ
@@ -45,3 +46,31 @@ pub record Indexed (keys starts ends : List ℕ) : Type 0 where
   pub inside : (v : ℕ) → v < length starts → getD ends v 0 ≤ length keys
   pub there : (v e : ℕ) → v < length starts → getD starts v 0 ≤ e → e < getD ends v 0 → getD keys e 0 / 65536 ≡ v
   pub all : (v e : ℕ) → v < length starts → e < length keys → getD keys e 0 / 65536 ≡ v → (getD starts v 0 ≤ e) × (e < getD ends v 0)
+
+-- ------------------------------------------------------------------ the pairs of one kind of two records as steps
+
+-- some pair of b leads from number v to number w
+abbrev pub Leads : Bytes → ℕ → List ℕ → ℕ → ℕ → ℕ → Type 0
+Leads b at numbers n v w = (p : ℕ) × (p < n) × (getD numbers (number b (at + 4 * p)) 0 ≡ v) × (getD numbers (number b (at + 4 * p + 2)) 0 ≡ w)
+
+-- the table has the pairs of both and no others
+pub record Built (b : Bytes) (s : ℕ) (ones : List ℕ) (m : ℕ) (c : Bytes) (t : ℕ) (twos : List ℕ) (n : ℕ) (es : Edges) : Type 0 where
+  pub from : (v e : ℕ) → v < length (es .starts) → Leaves es v e
+      → Leads b s ones m v (getD (es .targets) e 0) ⊎ Leads c t twos n v (getD (es .targets) e 0)
+  pub of-first : (v w : ℕ) → v < length (es .starts) → Leads b s ones m v w → (e : ℕ) × Leaves es v e × (getD (es .targets) e 0 ≡ w)
+  pub of-second : (v w : ℕ) → v < length (es .starts) → Leads c t twos n v w → (e : ℕ) × Leaves es v e × (getD (es .targets) e 0 ≡ w)
+
+-- n pairs of one record, in the order of their keys, of numbers below `size`
+pub record Sorted (b : Bytes) (at : ℕ) (numbers : List ℕ) (n size : ℕ) : Type 0 where
+  pub paired : Paired b at numbers n
+  pub rising : (p q : ℕ) → p ≤ q → q < n → keyAt b at numbers p ≤ keyAt b at numbers q
+  pub small : (p : ℕ) → p < length numbers → getD numbers p 0 < size
+
+-- room for the rows, the merged row, the index of so many numbers and the targets
+pub record Roomy (size : ℕ) (a d keys starts ends targets : List ℕ) : Type 0 where
+  pub merged : length keys ≡ length a + length d
+  pub few : length keys < 65536
+  pub targets-size : length targets ≡ length keys
+  pub starts-size : length starts ≡ size
+  pub ends-size : length ends ≡ size
+  pub small : size ≤ 65536

@@ -3,7 +3,8 @@ use text::read16;
 ghost use mathlib.Core.Path.{_≡_};
 ghost use Prim.Native.Nat.{ℕ, _+_, _/_, _%_, _≤_, _<_};
 ghost use lib.ListN.{length, getD};
-ghost use Rattle.search.specs.Keys.{keyAt, Paired, Rises, Merged, FirstNext, Indexed};
+ghost use Rattle.search.specs.Tables.{edges, Made};
+ghost use Rattle.search.specs.Keys.{keyAt, Paired, Rises, Merged, FirstNext, Indexed, Sorted, Roomy, Built};
 
 // The keys of the pairs from byte `at` on, as many as there is room for, by the numbers of their places.
 pub(crate) fn read_keys(b: &[u8], at: usize, numbers: &[u16], keys: &mut [u32])
@@ -99,4 +100,31 @@ pub(crate) fn split_targets(keys: &[u32], targets: &mut [u16])
         targets[e] = (keys[e] % 65536) as u16;
         e += 1;
     }
+}
+
+// The pairs of one kind of two records as one table of steps: those of b from byte s on and those of c from byte t on, as many as
+// the rows `a` and `d` have room for.
+pub(crate) fn build(
+    b: &[u8],
+    s: usize,
+    ones: &[u16],
+    c: &[u8],
+    t: usize,
+    twos: &[u16],
+    a: &mut [u32],
+    d: &mut [u32],
+    keys: &mut [u32],
+    starts: &mut [u16],
+    ends: &mut [u16],
+    targets: &mut [u16],
+)
+    requires { ⌜ Sorted (now b) s (now ones) (length (now a)) (length (now starts)) × Sorted (now c) t (now twos) (length (now d)) (length (now starts)) × Roomy (length (now starts)) (now a) (now d) (now keys) (now starts) (now ends) (now targets) ⌝ }
+    ensures { λ _. ⌜ Made (edges (now (starts .exit)) (now (ends .exit)) (now (targets .exit))) (length (now (starts .entry))) ⌝ }
+    ensures { λ _. ⌜ Built (now (b .entry)) s (now (ones .entry)) (length (now (a .entry))) (now (c .entry)) t (now (twos .entry)) (length (now (d .entry))) (edges (now (starts .exit)) (now (ends .exit)) (now (targets .exit))) ⌝ }
+{
+    read_keys(b, s, ones, a);
+    read_keys(c, t, twos, d);
+    merge(a, d, keys);
+    index(keys, starts, ends);
+    split_targets(keys, targets);
 }
