@@ -17,3 +17,5 @@ pub mod Numbering
 pub mod Merging
 pub mod Indexing
 pub mod Rows
+pub mod Sides
+pub mod Holding

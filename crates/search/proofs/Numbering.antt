@@ -24,19 +24,19 @@ next-compared b c m n i j l k Greater e = (k, λ x. greater-less bytes-order (na
 
 -- ------------------------------------------------------------------ the name of a number
 
-name-first : (ns : Names) (v p : ℕ) → getD (ns .firsts) v 0 ≡ p + 1 → nameOf ns v ≡ nameAt (ns .first) p
+pub name-first : (ns : Names) (v p : ℕ) → getD (ns .firsts) v 0 ≡ p + 1 → nameOf ns v ≡ nameAt (ns .first) p
 unfolding nameOf
 name-first ns v p e =
     let q : getD (ns .firsts) v 0 - 1 ≡ p = omega arith in
     rw (ne-eqb (getD (ns .firsts) v 0) 0 (λ z. omega arith), q)
 
-name-second : (ns : Names) (v p : ℕ) → getD (ns .firsts) v 0 ≡ 0 → getD (ns .seconds) v 0 ≡ p + 1 → nameOf ns v ≡ nameAt (ns .second) p
+pub name-second : (ns : Names) (v p : ℕ) → getD (ns .firsts) v 0 ≡ 0 → getD (ns .seconds) v 0 ≡ p + 1 → nameOf ns v ≡ nameAt (ns .second) p
 unfolding nameOf
 name-second ns v p z e =
     let q : getD (ns .seconds) v 0 - 1 ≡ p = omega arith in
     rw (eq-eqb (getD (ns .firsts) v 0) 0 z, q)
 
-name-same : (b c : Bytes) (fs ss fs′ ss′ : List ℕ) (v : ℕ) → getD fs′ v 0 ≡ getD fs v 0 → getD ss′ v 0 ≡ getD ss v 0
+pub name-same : (b c : Bytes) (fs ss fs′ ss′ : List ℕ) (v : ℕ) → getD fs′ v 0 ≡ getD fs v 0 → getD ss′ v 0 ≡ getD ss v 0
     → nameOf (naming b c fs′ ss′) v ≡ nameOf (naming b c fs ss) v
 unfolding nameOf
 name-same b c fs ss fs′ ss′ v e d = rw (e, d)

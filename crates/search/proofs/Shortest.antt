@@ -15,7 +15,7 @@ use Rattle.model.specs.Path.{Step, Relations}
 use Rattle.model.specs.Statements.{IsPath, Best}
 use Rattle.text.proofs.Order.{bytes-order}
 use Rattle.text.proofs.Ascending.{less-irrefl}
-use Rattle.search.specs.Tables.{related, Leaves, Graph, edgesOf, target, Holds}
+use Rattle.search.specs.Tables.{related, InOrder, Leaves, Graph, edgesOf, target, Holds}
 use Rattle.search.proofs.PathOrder.{NotLater, not-later-trans, not-later-snoc}
 use Rattle.search.proofs.Tree.{Progress, stepAt, Met, Tree}
 
@@ -24,12 +24,12 @@ not-later-append ss ts [] h = rw append-nil h
 not-later-append ss ts (u ∷ us) h = not-later-trans ss ts (ts ++ (u ∷ us)) h (inr (inl (simp length-append (omega arith))))
 
 -- a numbering that keeps the order tells the numbers apart
-names-apart : (G : Graph) (size : ℕ) (name : ℕ → Bytes) (r : Relations) → Holds G size name r → (i j : ℕ) → i < size → j < size → name i ≡ name j → i ≡ j
-names-apart G size name r holds i j l m e = go (decLt i j) (decLt j i)
+pub names-apart : (name : ℕ → Bytes) (size : ℕ) → InOrder name size → (i j : ℕ) → i < size → j < size → name i ≡ name j → i ≡ j
+names-apart name size order i j l m e = go (decLt i j) (decLt j i)
   where
     go : Dec (i < j) → Dec (j < i) → i ≡ j
-    go (yes q) d = absurd (less-irrefl bytes-order (name j) (rw e at (holds .order i j q m)))
-    go (no q) (yes p) = absurd (less-irrefl bytes-order (name j) (rw e at (holds .order j i p l)))
+    go (yes q) d = absurd (less-irrefl bytes-order (name j) (rw e at (order i j q m)))
+    go (no q) (yes p) = absurd (less-irrefl bytes-order (name j) (rw e at (order j i p l)))
     go (no q) (no p) = omega arith
 
 module _ (G : Graph) (size : ℕ) (name : ℕ → Bytes) (a : ℕ) (r : Relations) (holds : Holds G size name r)
@@ -80,7 +80,7 @@ module _ (G : Graph) (size : ℕ) (name : ℕ → Bytes) (a : ℕ) (r : Relation
     where
       go : (ts : List Step) → Reach (name (node h)) ts → NotLater (chain h) ts
       go ts (inl f) =
-          let e : node (f .0) ≡ node h = names-apart G size name r holds (node (f .0)) (node h) (t .inside (f .0) (f .1)) (t .inside h l) (f .3) in
+          let e : node (f .0) ≡ node h = names-apart name size (holds .order) (node (f .0)) (node h) (t .inside (f .0) (f .1)) (t .inside h l) (f .3) in
           absurd (omega (arith, once (f .0) (f .1) e, f .2))
       go ts (inr f) = f .1
 
@@ -88,5 +88,5 @@ module _ (G : Graph) (size : ℕ) (name : ℕ → Bytes) (a : ℕ) (r : Relation
   tree-none over v l never ss p = go (reached ss (name v) p)
     where
       go : Reach (name v) ss → ⊥
-      go (inl f) = never (f .0) (f .1) (names-apart G size name r holds (node (f .0)) v (t .inside (f .0) (f .1)) l (f .3))
+      go (inl f) = never (f .0) (f .1) (names-apart name size (holds .order) (node (f .0)) v (t .inside (f .0) (f .1)) l (f .3))
       go (inr f) = omega (arith, f .0)

@@ -61,9 +61,13 @@ edgesOf G Translation = G .translations
 abbrev pub target : Graph → Kind → ℕ → ℕ
 target G k e = getD (edgesOf G k .targets) e 0
 
+-- the names of the numbers below n are in the order of the numbers
+abbrev pub InOrder : (ℕ → Bytes) → ℕ → Type 0
+InOrder name n = (i j : ℕ) → i < j → j < n → compareBytes (name i) (name j) ≡ Less
+
 -- the tables of n nodes hold the relations r and no others, by a numbering of names that keeps their order
 pub record Holds (G : Graph) (n : ℕ) (name : ℕ → Bytes) (r : Relations) : Type 0 where
-  pub order : (i j : ℕ) → i < j → j < n → compareBytes (name i) (name j) ≡ Less
+  pub order : InOrder name n
   pub subgraphs : Ascending comparePairs (r .subgraphs)
   pub translations : Ascending comparePairs (r .translations)
   pub there : (k : Kind) (v e : ℕ) → v < n → Leaves (edgesOf G k) v e → related r k (name v) (name (target G k e))
