@@ -1,14 +1,17 @@
 -- The table of steps of one kind, from the merged and indexed keys of two records.
-use mathlib.Core.Path.{_≡_, _∙_}
+use mathlib.Core.Path.{_≡_, refl, _∙_}
 use mathlib.Core.Logic.{inl, inr, ⊎-elim}
-use mathlib.Core.List.{List}
+use mathlib.Core.List.{List, _++_}
 use Prim.Native.Nat.{ℕ, _+_, _*_, _/_, _%_, _≤_, _<_}
 use native.Mathlib.Omega.{arith}
-use lib.ListN.{length, getD}
+use lib.ListN.{length, take, getD}
+use lib.Seq.{length-take-le, take-at}
+use Rattle.model.specs.declared.Kind.{Kind}
 use Rattle.model.specs.Bytes.{Bytes}
 use Rattle.model.specs.Numbers.{number}
+use Rattle.record.specs.Test.{pairCount, tableAt}
 use Rattle.search.specs.Tables.{edges, Leaves, Made}
-use Rattle.search.specs.Keys.{keyAt, Rises, Among, Merged, Indexed, Leads, Built, Sorted}
+use Rattle.search.specs.Keys.{keyAt, Rises, Among, Merged, Indexed, Leads, Built, Sorted, Roomy, Buildable, KindBuilt}
 
 -- the keys as they were read
 abbrev pub Read : Bytes → ℕ → List ℕ → List ℕ → Type 0
@@ -83,3 +86,41 @@ module _ (b : Bytes) (s : ℕ) (ones : List ℕ) (c : Bytes) (t : ℕ) (twos : L
       stands v w l m k =
           let q : getD keys (k .at) 0 / 65536 ≡ v = omega (arith, k .is) in
           (k .at, indexed .all v (k .at) l (k .lt) q, omega (arith, split (k .at) (omega (arith, k .lt)), k .is))
+
+-- ------------------------------------------------------------------ in the front of longer tables
+
+-- as many keys of each as there are pairs
+pub rows-ready : (b c : Bytes) (k : Kind) (ones twos a d keys starts ends targets : List ℕ) (m n s t : ℕ) → Buildable b c k ones twos starts ends targets
+    → m ≡ pairCount k b → n ≡ pairCount k c → s ≡ tableAt k b → t ≡ tableAt k c
+    → length a ≡ 1024 → length d ≡ 1024 → length keys ≡ 2048
+    → Sorted b s ones (length (take m a)) (length starts) × Sorted c t twos (length (take n d)) (length starts)
+    × Roomy (length starts) (take m a) (take n d) (take (m + n) keys) starts ends (take (m + n) targets)
+rows-ready b c k ones twos a d keys starts ends targets m n s t r em en es et la ld lk =
+    let x : length (take m a) ≡ m = length-take-le m a (omega (arith, r .first-few)) in
+    let y : length (take n d) ≡ n = length-take-le n d (omega (arith, r .second-few)) in
+    let z : length (take (m + n) keys) ≡ m + n = length-take-le (m + n) keys (omega (arith, r .first-few, r .second-few)) in
+    let w : length (take (m + n) targets) ≡ m + n = length-take-le (m + n) targets (omega (arith, r .first-few, r .second-few, r .targets-size)) in (
+      rw (x, em, es) (r .first-sorted),
+      rw (y, en, et) (r .second-sorted),
+      record {
+        merged = omega arith;
+        few = omega (arith, r .first-few, r .second-few);
+        targets-size = omega arith;
+        starts-size = refl;
+        ends-size = r .ends-size;
+        small = r .small;
+      },
+    )
+
+pub kind-built : (b c : Bytes) (k : Kind) (ones twos a d : List ℕ) (size : ℕ) (starts ends targets rest : List ℕ) (m n s t : ℕ)
+    → m ≡ pairCount k b → n ≡ pairCount k c → s ≡ tableAt k b → t ≡ tableAt k c → m ≤ 1024 → n ≤ 1024
+    → length (take m a) ≡ m → length (take n d) ≡ n → length targets ≡ m + n
+    → Made (edges starts ends targets) size × Built b s ones (length (take m a)) c t twos (length (take n d)) (edges starts ends targets)
+    → KindBuilt b c k ones twos size starts ends (targets ++ rest) (m + n)
+kind-built b c k ones twos a d size starts ends targets rest m n s t em en es et lm ln x y z r =
+    let f : take (m + n) (targets ++ rest) ≡ targets = take-at targets rest (m + n) z in
+    record {
+      few = omega arith;
+      made = rw f (r .0);
+      built = rw (f, ← em, ← en, ← es, ← et) (rw (x, y) at (r .1));
+    }

@@ -5,10 +5,13 @@ use mathlib.Core.Logic.{_⊎_}
 use mathlib.Core.Bool.{Bool, true, false}
 use mathlib.Core.List.{List}
 use Prim.Native.Nat.{ℕ, _+_, _*_, _/_, _≤_, _<_}
-use lib.ListN.{length, getD}
+use lib.ListN.{length, getD, take}
+use Rattle.model.specs.declared.Kind.{Kind}
 use Rattle.model.specs.Bytes.{Bytes}
+use Rattle.model.specs.Layout.{recordLength}
+use Rattle.record.specs.Test.{pairCount, tableAt}
 use Rattle.model.specs.Numbers.{number}
-use Rattle.search.specs.Tables.{Edges, Leaves}
+use Rattle.search.specs.Tables.{Edges, edges, Leaves, Made}
 
 -- the p'th pair of places from byte `at` on, by the numbers of the places
 abbrev pub keyAt : Bytes → ℕ → List ℕ → ℕ → ℕ
@@ -74,3 +77,21 @@ pub record Roomy (size : ℕ) (a d keys starts ends targets : List ℕ) : Type 0
   pub starts-size : length starts ≡ size
   pub ends-size : length ends ≡ size
   pub small : size ≤ 65536
+
+-- two records whose pairs of this kind can be built into steps of so many numbers
+pub record Buildable (b c : Bytes) (k : Kind) (ones twos : List ℕ) (starts ends targets : List ℕ) : Type 0 where
+  pub first-size : length b ≡ recordLength
+  pub second-size : length c ≡ recordLength
+  pub first-sorted : Sorted b (tableAt k b) ones (pairCount k b) (length starts)
+  pub second-sorted : Sorted c (tableAt k c) twos (pairCount k c) (length starts)
+  pub first-few : pairCount k b ≤ 1024
+  pub second-few : pairCount k c ≤ 1024
+  pub ends-size : length ends ≡ length starts
+  pub targets-size : length targets ≡ 2048
+  pub small : length starts ≤ 65536
+
+-- the pairs of this kind of both are built, with n targets
+pub record KindBuilt (b c : Bytes) (k : Kind) (ones twos : List ℕ) (size : ℕ) (starts ends targets : List ℕ) (n : ℕ) : Type 0 where
+  pub few : n ≤ 2048
+  pub made : Made (edges starts ends (take n targets)) size
+  pub built : Built b (tableAt k b) ones (pairCount k b) c (tableAt k c) twos (pairCount k c) (edges starts ends (take n targets))

@@ -3,3 +3,4 @@ pub mod Queue
 pub mod Names
 pub mod Union
 pub mod Keys
+pub mod Replies

@@ -1,10 +1,13 @@
 // The pairs of two records as tables of steps: by keys of two numbers, merged in order, and indexed by the first number.
+use model::Kind;
+use record::pair_count;
+use record::table_at;
 use text::read16;
 ghost use mathlib.Core.Path.{_≡_};
 ghost use Prim.Native.Nat.{ℕ, _+_, _/_, _%_, _≤_, _<_};
 ghost use lib.ListN.{length, getD};
 ghost use Rattle.search.specs.Tables.{edges, Made};
-ghost use Rattle.search.specs.Keys.{keyAt, Paired, Rises, Merged, FirstNext, Indexed, Sorted, Roomy, Built};
+ghost use Rattle.search.specs.Keys.{keyAt, Paired, Rises, Merged, FirstNext, Indexed, Sorted, Roomy, Built, Buildable, KindBuilt};
 
 // The keys of the pairs from byte `at` on, as many as there is room for, by the numbers of their places.
 pub(crate) fn read_keys(b: &[u8], at: usize, numbers: &[u16], keys: &mut [u32])
@@ -127,4 +130,42 @@ pub(crate) fn build(
     merge(a, d, keys);
     index(keys, starts, ends);
     split_targets(keys, targets);
+}
+
+// The pairs of one kind of two records as one table of steps; gives how many targets there are.
+pub(crate) fn kind_edges(
+    b: &[u8],
+    c: &[u8],
+    kind: Kind,
+    ones: &[u16],
+    twos: &[u16],
+    starts: &mut [u16],
+    ends: &mut [u16],
+    targets: &mut [u16],
+) -> usize
+    requires { ⌜ Buildable (now b) (now c) kind (now ones) (now twos) (now starts) (now ends) (now targets) ⌝ }
+    ensures { λ r. ⌜ KindBuilt (now (b .entry)) (now (c .entry)) kind (now (ones .entry)) (now (twos .entry)) (length (now (starts .entry))) (now (starts .exit)) (now (ends .exit)) (now (targets .exit)) r ⌝ }
+{
+    let m = pair_count(b, kind);
+    let n = pair_count(c, kind);
+    let s = table_at(b, kind);
+    let t = table_at(c, kind);
+    let mut a: [u32; 1024] = [0; 1024];
+    let mut d: [u32; 1024] = [0; 1024];
+    let mut keys: [u32; 2048] = [0; 2048];
+    build(
+        b,
+        s,
+        ones,
+        c,
+        t,
+        twos,
+        &mut a[..m],
+        &mut d[..n],
+        &mut keys[..m + n],
+        starts,
+        ends,
+        &mut targets[..m + n],
+    );
+    m + n
 }

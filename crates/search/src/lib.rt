@@ -2,10 +2,19 @@
 mod breadth;
 mod edges;
 mod names;
+mod question;
 mod union;
 mod written;
 
 pub use breadth::search;
+pub use question::find_path;
+
+// The answer to a path question: the number of a refusal, no, or yes with the path's bytes in the output.
+pub enum Reply {
+    Refused(u32),
+    No,
+    Yes,
+}
 
 // Where a search found the node that was asked for: a place in the order of finding.
 pub enum Place {

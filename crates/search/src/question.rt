@@ -1,0 +1,59 @@
+// A path question over tables: the search, and the bytes of the path that it finds.
+use crate::Place;
+use crate::Reply;
+use crate::breadth::search;
+use crate::written::put_path;
+ghost use mathlib.Core.Path.{_≡_};
+ghost use Prim.Native.Nat.{_<_};
+ghost use lib.ListN.{length};
+ghost use Rattle.search.specs.Tables.{edges, graph};
+ghost use Rattle.search.specs.Names.{naming};
+ghost use Rattle.search.specs.Replies.{Askable, RepliesRight};
+
+// Finds the path from node a to node b, and writes it if there is room.
+pub fn find_path<'a>(
+    first: &'a [u8],
+    second: &'a [u8],
+    firsts: &[u16],
+    seconds: &[u16],
+    substarts: &[u16],
+    subends: &[u16],
+    subtargets: &[u16],
+    transtarts: &[u16],
+    transends: &[u16],
+    transtargets: &[u16],
+    a: usize,
+    b: usize,
+    out: &mut [u8],
+) -> Reply
+    requires { ⌜ Askable (naming (now first) (now second) (now firsts) (now seconds)) (graph (edges (now substarts) (now subends) (now subtargets)) (edges (now transtarts) (now transends) (now transtargets))) (length (now firsts)) a b ⌝ }
+    ensures { λ r. ⌜ RepliesRight (naming (now (first .entry)) (now (second .entry)) (now (firsts .entry)) (now (seconds .entry))) (graph (edges (now (substarts .entry)) (now (subends .entry)) (now (subtargets .entry))) (edges (now (transtarts .entry)) (now (transends .entry)) (now (transtargets .entry)))) (length (now (firsts .entry))) a b (now (out .entry)) r (now (out .exit)) ⌝ }
+{
+    let n = firsts.len();
+    let mut nodes: [u16; 1024] = [0; 1024];
+    let mut parents: [u16; 1024] = [0; 1024];
+    let mut kinds: [u8; 1024] = [0; 1024];
+    let mut places: [u16; 1024] = [0; 1024];
+    match search(
+        substarts,
+        subends,
+        subtargets,
+        transtarts,
+        transends,
+        transtargets,
+        a,
+        b,
+        &mut nodes[..n],
+        &mut parents[..n],
+        &mut kinds[..n],
+        &mut places[..n],
+    ) {
+        Place::NotFound => Reply::No,
+        Place::Found(j) => {
+            if put_path(first, second, firsts, seconds, &nodes[..n], &parents[..n], &kinds[..n], j, out) {
+                return Reply::Yes;
+            }
+            Reply::Refused(17)
+        }
+    }
+}
