@@ -19,3 +19,4 @@ pub mod Indexing
 pub mod Rows
 pub mod Sides
 pub mod Holding
+pub mod Replying

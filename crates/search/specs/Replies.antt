@@ -1,15 +1,14 @@
 -- What a path question gives, beside the definitions of `model`: the case of its reply, and what the output then holds.
 -- Assumes nothing.
 use mathlib.Core.Path.{_≡_}
-use mathlib.Core.List.{List}
 use Prim.Native.Nat.{ℕ, _≤_, _<_}
-use lib.ListN.{length, getD}
+use lib.ListN.{length}
 use Rattle.model.specs.Bytes.{Bytes}
 use Rattle.model.specs.Path.{Relations, bestPath}
 use Rattle.model.specs.Outcome.{Answer, refusal, notFound, found, answered, sized, outputAfter}
 use Rattle.search.specs.declared.Reply.{Reply}
 use Rattle.search.specs.declared.Reply.the-variants.{Refused, No, Yes}
-use Rattle.search.specs.Tables.{Edges, Made, Graph, Holds}
+use Rattle.search.specs.Tables.{Made, Graph, Holds}
 use Rattle.search.specs.Names.{Names, nameOf, Readable}
 
 abbrev pub replyOf : Answer → Reply

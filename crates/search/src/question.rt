@@ -50,7 +50,17 @@ pub fn find_path<'a>(
     ) {
         Place::NotFound => Reply::No,
         Place::Found(j) => {
-            if put_path(first, second, firsts, seconds, &nodes[..n], &parents[..n], &kinds[..n], j, out) {
+            if put_path(
+                first,
+                second,
+                firsts,
+                seconds,
+                &nodes[..n],
+                &parents[..n],
+                &kinds[..n],
+                j,
+                out,
+            ) {
                 return Reply::Yes;
             }
             Reply::Refused(17)

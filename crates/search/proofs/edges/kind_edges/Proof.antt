@@ -1,18 +1,12 @@
 -- The rows are lent in front of longer tables.
-use mathlib.Core.Path.{_≡_, refl, sym, _∙_}
+use mathlib.Core.Path.{refl, sym, _∙_}
 use Prim.Native.Nat.{_≤_}
-use lib.ListN.{length, take}
 use native.Mathlib.Omega.{arith}
 use lib.Seq.{length-take-le}
 use Rattle.search.proofs.Rows.{rows-ready, kind-built}
 use borrow.Author.Needs.{needs}
 use Rattle.search.proofs.edges.kind_edges.Statement.{statement}
 use Rattle.search.proofs.edges.kind_edges.Tie as tie
-use Rattle.search.proofs.edges.kind_edges.Reads as reads
-use Rattle.search.proofs.edges.kind_edges.Lts as lts
-use Rattle.record.proofs.pair_count.Reads as pair-count-reads
-use Rattle.record.proofs.table_at.Reads as table-at-reads
-use Rattle.search.proofs.edges.build.Reads as build-reads
 
 abbrev start : tie.After-pair-count → tie.Start
 start c = c .before .before .before .before .before .before .before .before

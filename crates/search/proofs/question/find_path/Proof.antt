@@ -1,102 +1,120 @@
+-- The search runs in the front of tables for the most names there can be.
+use mathlib.Core.Path.{_≡_, refl, sym, _∙_}
+use lib.ListN.{length, length-append, length-take}
+use native.Mathlib.Omega.{arith}
+use lib.Seq.{length-take-le, take-at}
+use denote.Ref.{now}
+use Rattle.search.proofs.Replying.{searchable, reply-no, found-back, reply-yes, reply-short}
 use borrow.Author.Needs.{needs}
 use Rattle.search.proofs.question.find_path.Statement.{statement}
 use Rattle.search.proofs.question.find_path.Tie as tie
-use Rattle.search.proofs.question.find_path.Reads as reads
-use Rattle.search.proofs.question.find_path.Lts as lts
-use Rattle.search.proofs.breadth.search.Reads as search-reads
-use Rattle.search.proofs.written.put_path.Reads as put-path-reads
 
--- src/question.rt:46:9
+abbrev start : tie.After-slice-known → tie.Start
+start c = c .before .before .before .before .before .before .before .before .before .before .before
+
+abbrev searched : tie.After-places2 → tie.After-search
+searched c = c .before .before .before .before
+
+abbrev first : tie.After-search → tie.Start
+first c = start (c .before .before .before .before .before)
+
+nodes-size : (c : tie.After-search) → length (c .search .last .1 .1 .1 .1 .1 .1 .1 .1 .0) ≡ length (now (first c .args .firsts))
+nodes-size c = c .search .kept .1 .1 .1 .1 .1 .1 .1 .1 .0 ∙ length-take-le _ _ (first c .pre .few)
+
+parents-size : (c : tie.After-search) → length (c .search .last .1 .1 .1 .1 .1 .1 .1 .1 .1 .0) ≡ length (now (first c .args .firsts))
+parents-size c = c .search .kept .1 .1 .1 .1 .1 .1 .1 .1 .1 .0 ∙ length-take-le _ _ (first c .pre .few)
+
+kinds-size : (c : tie.After-search) → length (c .search .last .1 .1 .1 .1 .1 .1 .1 .1 .1 .1 .0) ≡ length (now (first c .args .firsts))
+kinds-size c = c .search .kept .1 .1 .1 .1 .1 .1 .1 .1 .1 .1 .0 ∙ length-take-le _ _ (first c .pre .few)
+
+-- where the path was found
+abbrev found-at : tie.After-known-told → tie.After-search
+found-at c = searched (c .before .before .before)
+
 array-borrow-prefix-nodes : tie.Need-array-borrow-prefix-nodes
 array-borrow-prefix-nodes c = search needs
 
--- src/question.rt:46:9
 slice-aggregate-search : tie.Need-slice-aggregate-search
-slice-aggregate-search c = ?
+slice-aggregate-search c = let s = start (c .before) in sym (length-take-le _ _ (s .pre .few))
 
--- src/question.rt:47:9
 array-borrow-prefix-parents : tie.Need-array-borrow-prefix-parents
 array-borrow-prefix-parents c = search needs
 
--- src/question.rt:47:9
 slice-aggregate-search-2 : tie.Need-slice-aggregate-search-2
-slice-aggregate-search-2 c = ?
+slice-aggregate-search-2 c = let s = start (c .before .before) in sym (length-take-le _ _ (s .pre .few))
 
--- src/question.rt:48:9
 array-borrow-prefix-kinds : tie.Need-array-borrow-prefix-kinds
 array-borrow-prefix-kinds c = search needs
 
--- src/question.rt:48:9
 slice-aggregate-search-3 : tie.Need-slice-aggregate-search-3
-slice-aggregate-search-3 c = ?
+slice-aggregate-search-3 c = let s = start (c .before .before .before) in sym (length-take-le _ _ (s .pre .few))
 
--- src/question.rt:49:9
 array-borrow-prefix-places : tie.Need-array-borrow-prefix-places
 array-borrow-prefix-places c = search needs
 
--- src/question.rt:49:9
 slice-aggregate-search-4 : tie.Need-slice-aggregate-search-4
-slice-aggregate-search-4 c = ?
+slice-aggregate-search-4 c = let s = start (c .before .before .before .before) in sym (length-take-le _ _ (s .pre .few))
 
--- src/question.rt:37:11
 search-requires : tie.Need-search-requires
-search-requires c κs = ?
+search-requires c κs = let s = start (c .before .before .before .before) in searchable _ _ _ _ _ _ _ _ _ (s .pre) refl refl refl refl
 
--- src/question.rt:51:28
 enum-told : tie.Need-enum-told
 enum-told c = search needs
 
--- src/question.rt:52:22
 enum-known-j : tie.Need-enum-known-j
 enum-known-j c = search needs
 
--- src/question.rt:53:57
 array-share-prefix-nodes : tie.Need-array-share-prefix-nodes
-array-share-prefix-nodes c = ?
+array-share-prefix-nodes c = simp length-append (omega (arith, nodes-size (found-at c)))
 
--- src/question.rt:53:57
 slice-aggregate-put-path : tie.Need-slice-aggregate-put-path
-slice-aggregate-put-path c = ?
+slice-aggregate-put-path c = simp (length-take, length-append) (omega (arith, nodes-size (found-at (c .before))))
 
--- src/question.rt:53:70
 array-share-prefix-parents : tie.Need-array-share-prefix-parents
-array-share-prefix-parents c = ?
+array-share-prefix-parents c = simp length-append (omega (arith, parents-size (found-at (c .before))))
 
--- src/question.rt:53:70
 slice-aggregate-put-path-2 : tie.Need-slice-aggregate-put-path-2
-slice-aggregate-put-path-2 c = ?
+slice-aggregate-put-path-2 c = simp (length-take, length-append) (omega (arith, parents-size (found-at (c .before .before))))
 
--- src/question.rt:53:85
 array-share-prefix-kinds : tie.Need-array-share-prefix-kinds
-array-share-prefix-kinds c = ?
+array-share-prefix-kinds c = simp length-append (omega (arith, kinds-size (found-at (c .before .before))))
 
--- src/question.rt:53:85
 slice-aggregate-put-path-3 : tie.Need-slice-aggregate-put-path-3
-slice-aggregate-put-path-3 c = ?
+slice-aggregate-put-path-3 c = simp (length-take, length-append) (omega (arith, kinds-size (found-at (c .before .before .before))))
 
--- src/question.rt:53:16
 put-path-requires : tie.Need-put-path-requires
-put-path-requires c κs = ?
+put-path-requires c κs =
+    let k = c .before .before .before .before in
+    let s = found-at k in
+    found-back _ _ _ _ _ (first s .pre) _ (length-take-le _ _ (first s .pre .few)) _ _ _ _ _ _ _ _ (s .search .ensures) (k .before .j .given .1)
+    (take-at _ _ _ (nodes-size s)) (take-at _ _ _ (parents-size s)) (take-at _ _ _ (kinds-size s)) (nodes-size s)
 
--- src/question.rt:54:17
 same-length : tie.Need-same-length
 same-length c = search needs
 
--- src/question.rt:54:17
 returns : tie.Need-returns
-returns c = ?
+returns c =
+    let p = c .before .before .before in
+    let k = p .before .before .before .before .before in
+    let s = found-at k in
+    reply-yes _ _ _ _ _ (first s .pre) _ (length-take-le _ _ (first s .pre .few)) _ _ _ _ _ _ _ _ (s .search .ensures) (k .before .j .given .1)
+    (take-at _ _ _ (nodes-size s)) (take-at _ _ _ (parents-size s)) (take-at _ _ _ (kinds-size s)) (now (first s .args .out)) _ _ (p .put-path .ensures) (c .if1 .taken)
 
--- src/question.rt:14:1
 returns-2 : tie.Need-returns-2
-returns-2 c = ?
+returns-2 c =
+    let s = searched (c .before .before) in
+    reply-no _ _ _ _ _ (first s .pre) _ (length-take-le _ _ (first s .pre .few)) _ _ _ _ _ (s .search .ensures) (c .enum-told .given .1)
 
--- src/question.rt:14:1
 same-length-2 : tie.Need-same-length-2
 same-length-2 c = search needs
 
--- src/question.rt:14:1
 returns-3 : tie.Need-returns-3
-returns-3 c = ?
+returns-3 c =
+    let p = c .before .before .before in
+    let k = p .before .before .before .before .before in
+    let s = found-at k in
+    reply-short _ _ _ _ _ (first s .pre) _ (length-take-le _ _ (first s .pre .few)) _ _ _ _ _ _ _ _ (s .search .ensures) (k .before .j .given .1)
+    (take-at _ _ _ (nodes-size s)) (take-at _ _ _ (parents-size s)) (take-at _ _ _ (kinds-size s)) (now (first s .args .out)) _ _ (p .put-path .ensures) (c .if1 .left)
 
 pub find-path-spec : {M : Type 1} → statement M
 find-path-spec =
