@@ -21,9 +21,10 @@ use Rattle.text.proofs.Places.{getD-member, member-getD}
 use Rattle.record.specs.Test.{pairCount, tableAt}
 use Rattle.record.proofs.Access.{record-pair, record-pairCount}
 use Rattle.search.specs.Tables.{pairOf, related, Edges, Leaves, graph, edgesOf, target, InOrder, Holds}
+use Rattle.search.specs.Union.{Side}
 use Rattle.search.specs.Keys.{Leads, Built}
 use Rattle.search.proofs.Shortest.{names-apart}
-use Rattle.search.proofs.Sides.{Side, pairs-ascending, pair-named}
+use Rattle.search.proofs.Sides.{pairs-ascending, pair-named}
 
 abbrev noPair : Pair
 noPair = record { from = []; to = [] }

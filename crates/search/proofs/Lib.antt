@@ -20,3 +20,4 @@ pub mod Rows
 pub mod Sides
 pub mod Holding
 pub mod Replying
+pub mod Asking

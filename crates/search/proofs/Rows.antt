@@ -1,17 +1,19 @@
 -- The table of steps of one kind, from the merged and indexed keys of two records.
 use mathlib.Core.Path.{_≡_, refl, _∙_}
 use mathlib.Core.Logic.{inl, inr, ⊎-elim}
+use mathlib.Core.Bool.{Bool, true, false}
 use mathlib.Core.List.{List, _++_}
 use Prim.Native.Nat.{ℕ, _+_, _*_, _/_, _%_, _≤_, _<_}
 use native.Mathlib.Omega.{arith}
 use lib.ListN.{length, take, getD}
 use lib.Seq.{length-take-le, take-at}
 use Rattle.model.specs.declared.Kind.{Kind}
+use Rattle.model.specs.declared.Kind.the-variants.{Translation}
 use Rattle.model.specs.Bytes.{Bytes}
 use Rattle.model.specs.Numbers.{number}
 use Rattle.record.specs.Test.{pairCount, tableAt}
 use Rattle.search.specs.Tables.{edges, Leaves, Made}
-use Rattle.search.specs.Keys.{keyAt, Rises, Among, Merged, Indexed, Leads, Built, Sorted, Roomy, Buildable, KindBuilt}
+use Rattle.search.specs.Keys.{keyAt, Rises, Among, Merged, Indexed, Leads, Built, Sorted, Roomy, Buildable, KindBuilt, TranslationsBuilt}
 
 -- the keys as they were read
 abbrev pub Read : Bytes → ℕ → List ℕ → List ℕ → Type 0
@@ -124,3 +126,30 @@ kind-built b c k ones twos a d size starts ends targets rest m n s t em en es et
       made = rw f (r .0);
       built = rw (f, ← em, ← en, ← es, ← et) (rw (x, y) at (r .1));
     }
+
+-- ------------------------------------------------------------------ the translation steps
+
+pub translations-full : (b c : Bytes) (ones twos : List ℕ) (size : ℕ) (starts ends targets : List ℕ) (n : ℕ) (full : Bool) → full ≡ true
+    → KindBuilt b c Translation ones twos size starts ends targets n → TranslationsBuilt full b c ones twos size starts ends targets n
+translations-full b c ones twos size starts ends targets n full e k = record {
+  few = k .few;
+  made = k .made;
+  built = λ d. k .built;
+  none = λ d. absurd (let z : _≡_ {A = ℕ} 0 1 = cc in omega arith);
+}
+
+pub translations-none : (b c : Bytes) (ones twos : List ℕ) (size : ℕ) (starts ends targets : List ℕ) (full : Bool) → full ≡ false
+    → length starts ≡ size → length ends ≡ size → ((v : ℕ) → v < length ends → getD ends v 0 ≡ 0)
+    → TranslationsBuilt full b c ones twos size starts ends targets 0
+translations-none b c ones twos size starts ends targets full e ls le clear = record {
+  few = omega arith;
+  made = record {
+    starts = ls;
+    ends = le;
+    inside = λ v l. omega (arith, clear v (omega arith));
+    nodes = λ i l. absurd (omega arith);
+    rising = λ v i f l low between high. absurd (omega (arith, clear v (omega arith)));
+  };
+  built = λ d. absurd (let z : _≡_ {A = ℕ} 0 1 = cc in omega arith);
+  none = λ d v i l m. omega (arith, clear v (omega arith), m .1);
+}

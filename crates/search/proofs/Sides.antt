@@ -27,7 +27,7 @@ use Rattle.record.proofs.Laws.{decoded, decode-held}
 use Rattle.record.proofs.Access.{pairAt, record-count, record-name, record-pair, record-pairCount, pair-within}
 use Rattle.search.specs.Tables.{InOrder}
 use Rattle.search.specs.Names.{naming, nameOf}
-use Rattle.search.specs.Union.{NamesRise, Numbered}
+use Rattle.search.specs.Union.{NamesRise, Numbered, Side}
 use Rattle.search.specs.Keys.{keyAt, Sorted}
 use Rattle.search.proofs.Numbering.{name-first, name-second, name-same}
 
@@ -55,12 +55,6 @@ compare-pairs : (name : ℕ → Bytes) (size : ℕ) → InOrder name size → (u
     → comparePairs (record { from = name u; to = name v }) (record { from = name x; to = name y }) ≡ thenBy (compareNumbers u x) (compareNumbers v y)
 unfolding comparePairs
 compare-pairs name size order u v x y i j k l = rw (compare-names name size order u x i k, compare-names name size order v y j l)
-
--- the first m places of a record have numbers below size, of the names there
-pub record Side (b : Bytes) (m size : ℕ) (numbers : List ℕ) (name : ℕ → Bytes) : Type 0 where
-  pub count : length numbers ≡ m
-  pub small : (p : ℕ) → p < m → getD numbers p 0 < size
-  pub named : (p : ℕ) → p < m → name (getD numbers p 0) ≡ nameAt b p
 
 module _ (b c : Bytes) (firsts seconds ones twos : List ℕ) (m n v : ℕ) (t : Numbered b c firsts seconds ones twos m n v) where
   abbrev name : ℕ → Bytes

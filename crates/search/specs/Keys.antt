@@ -7,6 +7,7 @@ use mathlib.Core.List.{List}
 use Prim.Native.Nat.{ℕ, _+_, _*_, _/_, _≤_, _<_}
 use lib.ListN.{length, getD, take}
 use Rattle.model.specs.declared.Kind.{Kind}
+use Rattle.model.specs.declared.Kind.the-variants.{Translation}
 use Rattle.model.specs.Bytes.{Bytes}
 use Rattle.model.specs.Layout.{recordLength}
 use Rattle.record.specs.Test.{pairCount, tableAt}
@@ -95,3 +96,11 @@ pub record KindBuilt (b c : Bytes) (k : Kind) (ones twos : List ℕ) (size : ℕ
   pub few : n ≤ 2048
   pub made : Made (edges starts ends (take n targets)) size
   pub built : Built b (tableAt k b) ones (pairCount k b) c (tableAt k c) twos (pairCount k c) (edges starts ends (take n targets))
+
+-- for a full question the translation pairs of both are built; for a subgraph question there are no steps
+pub record TranslationsBuilt (full : Bool) (b c : Bytes) (ones twos : List ℕ) (size : ℕ) (starts ends targets : List ℕ) (n : ℕ) : Type 0 where
+  pub few : n ≤ 2048
+  pub made : Made (edges starts ends (take n targets)) size
+  pub built : full ≡ true
+      → Built b (tableAt Translation b) ones (pairCount Translation b) c (tableAt Translation c) twos (pairCount Translation c) (edges starts ends (take n targets))
+  pub none : full ≡ false → (v e : ℕ) → v < size → Leaves (edges starts ends (take n targets)) v e → ⊥

@@ -1,14 +1,23 @@
 -- Numbers for the names of two records together, in the order of the names: by place in each record the number, and by number
 -- the place in each record plus 1, or 0 where the record does not hold the name. Assumes nothing.
 use mathlib.Core.Path.{_≡_}
+use mathlib.Core.Bool.{Bool, cond}
 use mathlib.Core.List.{List}
+use mathlib.Core.Option.{some}
 use Prim.Native.Nat.{ℕ, _+_, _-_, _≤_, _<_}
 use lib.ListN.{length, getD}
 use Rattle.model.specs.declared.Order.{Order}
 use Rattle.model.specs.declared.Order.the-variants.{Less, Equal, Greater}
 use Rattle.model.specs.Bytes.{Bytes, compareBytes}
-use Rattle.model.specs.Layout.{recordLength, nameAt}
-use Rattle.search.specs.Names.{naming, nameOf}
+use Rattle.model.specs.Numbers.{number}
+use Rattle.model.specs.Record.{GraphName}
+use Rattle.model.specs.Layout.{recordLength, nameAt, decode}
+use Rattle.model.specs.Path.{Relations, subgraphRelations, allRelations, bestPath}
+use Rattle.model.specs.Outcome.{answered, sized}
+use Rattle.search.specs.declared.Reply.{Reply}
+use Rattle.search.specs.Tables.{InOrder}
+use Rattle.search.specs.Replies.{Replies}
+use Rattle.search.specs.Names.{Names, naming, nameOf, Readable}
 
 -- the first n names ascend
 abbrev pub NamesRise : Bytes → ℕ → Type 0
@@ -44,3 +53,33 @@ abbrev pub Next : Bytes → Bytes → ℕ → ℕ → ℕ → ℕ → Order → 
 Next b c m n i j Less = (i < m) × (j < n → compareBytes (nameAt b i) (nameAt c j) ≡ Less)
 Next b c m n i j Equal = (i < m) × (j < n) × (nameAt b i ≡ nameAt c j)
 Next b c m n i j Greater = (j < n) × (i < m → compareBytes (nameAt c j) (nameAt b i) ≡ Less)
+
+-- the first m places of a record have numbers below size, of the names there
+pub record Side (b : Bytes) (m size : ℕ) (numbers : List ℕ) (name : ℕ → Bytes) : Type 0 where
+  pub count : length numbers ≡ m
+  pub small : (p : ℕ) → p < m → getD numbers p 0 < size
+  pub named : (p : ℕ) → p < m → name (getD numbers p 0) ≡ nameAt b p
+
+-- a question about two records, by the numbers of their names: from number a to number e
+pub record Questioned (b c : Bytes) (firsts seconds ones twos : List ℕ) (a e : ℕ) : Type 0 where
+  pub g : GraphName
+  pub h : GraphName
+  pub first : decode b ≡ some g
+  pub second : decode c ≡ some h
+  pub readable : Readable (naming b c firsts seconds) (length firsts)
+  pub one : Side b (number b 0) (length firsts) ones (nameOf (naming b c firsts seconds))
+  pub two : Side c (number c 0) (length firsts) twos (nameOf (naming b c firsts seconds))
+  pub order : InOrder (nameOf (naming b c firsts seconds)) (length firsts)
+  pub few : length firsts ≤ 1024
+  pub from : a < length firsts
+  pub to : e < length firsts
+
+-- the relations that a question goes by
+abbrev pub relationsOf : Bool → GraphName → GraphName → Relations
+relationsOf full g h = cond full (allRelations g h) (subgraphRelations g h)
+
+-- the right reply, from what the records mean
+abbrev pub RepliesTo : Bool → Bytes → Bytes → Names → ℕ → ℕ → Bytes → Reply → Bytes → Type 0
+RepliesTo full b c ns a e out r o =
+    (g h : GraphName) → decode b ≡ some g → decode c ≡ some h
+    → Replies (sized (length out) (answered (nameOf ns a) (bestPath (relationsOf full g h) (nameOf ns a) (nameOf ns e)))) out r o

@@ -6,8 +6,8 @@ ghost use lib.ListN.{length, getD};
 ghost use Rattle.search.specs.Tables.{edges, graph, nexts, Made};
 ghost use Rattle.search.specs.Queue.{queued, visitAll, Ready, Searchable, Told};
 
-// No node is found.
-fn clear(places: &mut [u16])
+// No node is found: every number of a table is 0.
+pub(crate) fn clear(places: &mut [u16])
     ensures { λ _. ⌜ ((v : ℕ) → v < length (now (places .exit)) → getD (now (places .exit)) v 0 ≡ 0) ⌝ }
 {
     let mut v = 0;

@@ -1,4 +1,5 @@
 // The pairs of two records as tables of steps: by keys of two numbers, merged in order, and indexed by the first number.
+use crate::breadth::clear;
 use model::Kind;
 use record::pair_count;
 use record::table_at;
@@ -6,8 +7,9 @@ use text::read16;
 ghost use mathlib.Core.Path.{_≡_};
 ghost use Prim.Native.Nat.{ℕ, _+_, _/_, _%_, _≤_, _<_};
 ghost use lib.ListN.{length, getD};
+ghost use Rattle.model.specs.declared.Kind.the-variants.{Translation};
 ghost use Rattle.search.specs.Tables.{edges, Made};
-ghost use Rattle.search.specs.Keys.{keyAt, Paired, Rises, Merged, FirstNext, Indexed, Sorted, Roomy, Built, Buildable, KindBuilt};
+ghost use Rattle.search.specs.Keys.{keyAt, Paired, Rises, Merged, FirstNext, Indexed, Sorted, Roomy, Built, Buildable, KindBuilt, TranslationsBuilt};
 
 // The keys of the pairs from byte `at` on, as many as there is room for, by the numbers of their places.
 pub(crate) fn read_keys(b: &[u8], at: usize, numbers: &[u16], keys: &mut [u32])
@@ -168,4 +170,27 @@ pub(crate) fn kind_edges(
         &mut targets[..m + n],
     );
     m + n
+}
+
+// The translation pairs of two records as one table of steps, or no steps where the question goes by subgraph pairs alone; gives
+// how many targets there are.
+pub(crate) fn translation_edges(
+    full: bool,
+    b: &[u8],
+    c: &[u8],
+    ones: &[u16],
+    twos: &[u16],
+    starts: &mut [u16],
+    ends: &mut [u16],
+    targets: &mut [u16],
+) -> usize
+    requires { ⌜ Buildable (now b) (now c) Translation (now ones) (now twos) (now starts) (now ends) (now targets) ⌝ }
+    ensures { λ r. ⌜ TranslationsBuilt full (now (b .entry)) (now (c .entry)) (now (ones .entry)) (now (twos .entry)) (length (now (starts .entry))) (now (starts .exit)) (now (ends .exit)) (now (targets .exit)) r ⌝ }
+{
+    if full {
+        return kind_edges(b, c, Kind::Translation, ones, twos, starts, ends, targets);
+    }
+    clear(starts);
+    clear(ends);
+    0
 }

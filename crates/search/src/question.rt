@@ -2,12 +2,16 @@
 use crate::Place;
 use crate::Reply;
 use crate::breadth::search;
+use crate::edges::kind_edges;
+use crate::edges::translation_edges;
 use crate::written::put_path;
+use model::Kind;
 ghost use mathlib.Core.Path.{_≡_};
 ghost use Prim.Native.Nat.{_<_};
 ghost use lib.ListN.{length};
 ghost use Rattle.search.specs.Tables.{edges, graph};
 ghost use Rattle.search.specs.Names.{naming};
+ghost use Rattle.search.specs.Union.{Questioned, RepliesTo};
 ghost use Rattle.search.specs.Replies.{Askable, RepliesRight};
 
 // Finds the path from node a to node b, and writes it if there is room.
@@ -66,4 +70,46 @@ pub fn find_path<'a>(
             Reply::Refused(17)
         }
     }
+}
+
+// The path from the name of number `from` to that of number `to`, over the subgraph pairs of both records, or over all their pairs.
+fn ask_numbered<'a>(
+    b: &'a [u8],
+    c: &'a [u8],
+    firsts: &[u16],
+    seconds: &[u16],
+    ones: &[u16],
+    twos: &[u16],
+    from: usize,
+    to: usize,
+    full: bool,
+    out: &mut [u8],
+) -> Reply
+    requires { ⌜ Questioned (now b) (now c) (now firsts) (now seconds) (now ones) (now twos) from to ⌝ }
+    ensures { λ r. ⌜ RepliesTo full (now (b .entry)) (now (c .entry)) (naming (now (b .entry)) (now (c .entry)) (now (firsts .entry)) (now (seconds .entry))) from to (now (out .entry)) r (now (out .exit)) ⌝ }
+{
+    let n = firsts.len();
+    let mut starts: [u16; 1024] = [0; 1024];
+    let mut ends: [u16; 1024] = [0; 1024];
+    let mut targets: [u16; 2048] = [0; 2048];
+    let mut starts2: [u16; 1024] = [0; 1024];
+    let mut ends2: [u16; 1024] = [0; 1024];
+    let mut targets2: [u16; 2048] = [0; 2048];
+    let k = kind_edges(b, c, Kind::Subgraph, ones, twos, &mut starts[..n], &mut ends[..n], &mut targets);
+    let l = translation_edges(full, b, c, ones, twos, &mut starts2[..n], &mut ends2[..n], &mut targets2);
+    find_path(
+        b,
+        c,
+        firsts,
+        seconds,
+        &starts[..n],
+        &ends[..n],
+        &targets[..k],
+        &starts2[..n],
+        &ends2[..n],
+        &targets2[..l],
+        from,
+        to,
+        out,
+    )
 }
