@@ -95,8 +95,26 @@ fn ask_numbered<'a>(
     let mut starts2: [u16; 1024] = [0; 1024];
     let mut ends2: [u16; 1024] = [0; 1024];
     let mut targets2: [u16; 2048] = [0; 2048];
-    let k = kind_edges(b, c, Kind::Subgraph, ones, twos, &mut starts[..n], &mut ends[..n], &mut targets);
-    let l = translation_edges(full, b, c, ones, twos, &mut starts2[..n], &mut ends2[..n], &mut targets2);
+    let k = kind_edges(
+        b,
+        c,
+        Kind::Subgraph,
+        ones,
+        twos,
+        &mut starts[..n],
+        &mut ends[..n],
+        &mut targets,
+    );
+    let l = translation_edges(
+        full,
+        b,
+        c,
+        ones,
+        twos,
+        &mut starts2[..n],
+        &mut ends2[..n],
+        &mut targets2,
+    );
     find_path(
         b,
         c,

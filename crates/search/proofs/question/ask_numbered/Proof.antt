@@ -1,3 +1,12 @@
+-- Both kinds of steps are built in the front of tables for the most names there can be.
+use mathlib.Core.Path.{_≡_, refl, sym, _∙_}
+use Prim.Native.Nat.{_≤_}
+use lib.ListN.{length, length-append, length-take}
+use lib.Seq.{length-take-le, take-at}
+use denote.Ref.{now}
+use Rattle.model.specs.declared.Kind.the-variants.{Subgraph, Translation}
+use Rattle.search.proofs.Asking.{buildable, askable, replies-to}
+use native.Mathlib.Omega.{arith}
 use borrow.Author.Needs.{needs}
 use Rattle.search.proofs.question.ask_numbered.Statement.{statement}
 use Rattle.search.proofs.question.ask_numbered.Tie as tie
@@ -7,113 +16,117 @@ use Rattle.search.proofs.edges.kind_edges.Reads as kind-edges-reads
 use Rattle.search.proofs.edges.translation_edges.Reads as translation-edges-reads
 use Rattle.search.proofs.question.find_path.Reads as find-path-reads
 
--- src/question.rt:98:58
+abbrev start : tie.After-slice-known → tie.Start
+start c = c .before .before .before .before .before .before .before
+
+abbrev first : tie.After-kind-edges → tie.Start
+first c = start (c .before .before .before .before)
+
+abbrev built : tie.After-translation-edges → tie.After-kind-edges
+built c = c .before .before .before .before .before .before .before
+
+starts-size : (c : tie.After-kind-edges) → length (c .kind-edges .last .1 .1 .1 .1 .1 .0) ≡ length (now (first c .args .firsts))
+starts-size c = c .kind-edges .kept .1 .1 .1 .1 .1 .0 ∙ length-take-le _ _ (first c .pre .few)
+
+ends-size : (c : tie.After-kind-edges) → length (c .kind-edges .last .1 .1 .1 .1 .1 .1 .0) ≡ length (now (first c .args .firsts))
+ends-size c = c .kind-edges .kept .1 .1 .1 .1 .1 .1 .0 ∙ length-take-le _ _ (first c .pre .few)
+
+starts-size-2 : (c : tie.After-translation-edges) → length (c .translation-edges .last .1 .1 .1 .1 .1 .0) ≡ length (now (first (built c) .args .firsts))
+starts-size-2 c = c .translation-edges .kept .1 .1 .1 .1 .1 .0 ∙ length-take-le _ _ (first (built c) .pre .few)
+
+ends-size-2 : (c : tie.After-translation-edges) → length (c .translation-edges .last .1 .1 .1 .1 .1 .1 .0) ≡ length (now (first (built c) .args .firsts))
+ends-size-2 c = c .translation-edges .kept .1 .1 .1 .1 .1 .1 .0 ∙ length-take-le _ _ (first (built c) .pre .few)
+
 array-borrow-prefix-starts : tie.Need-array-borrow-prefix-starts
 array-borrow-prefix-starts c = search needs
 
--- src/question.rt:98:58
 slice-aggregate-kind-edges : tie.Need-slice-aggregate-kind-edges
-slice-aggregate-kind-edges c = ?
+slice-aggregate-kind-edges c = sym (length-take-le _ _ (start (c .before) .pre .few))
 
--- src/question.rt:98:76
 array-borrow-prefix-ends : tie.Need-array-borrow-prefix-ends
 array-borrow-prefix-ends c = search needs
 
--- src/question.rt:98:76
 slice-aggregate-kind-edges-2 : tie.Need-slice-aggregate-kind-edges-2
-slice-aggregate-kind-edges-2 c = ?
+slice-aggregate-kind-edges-2 c = sym (length-take-le _ _ (start (c .before .before) .pre .few))
 
--- src/question.rt:98:92
 slice-aggregate-kind-edges-3 : tie.Need-slice-aggregate-kind-edges-3
 slice-aggregate-kind-edges-3 c = search needs
 
--- src/question.rt:98:9
 kind-edges-requires : tie.Need-kind-edges-requires
-kind-edges-requires c κs = ?
+kind-edges-requires c κs = buildable _ _ _ _ _ _ _ _ (start (c .before .before .before) .pre) Subgraph _ _ _ refl refl refl
 
--- src/question.rt:99:55
 array-borrow-prefix-starts2 : tie.Need-array-borrow-prefix-starts2
 array-borrow-prefix-starts2 c = search needs
 
--- src/question.rt:99:55
 slice-aggregate-translation-edges : tie.Need-slice-aggregate-translation-edges
-slice-aggregate-translation-edges c = ?
+slice-aggregate-translation-edges c = sym (length-take-le _ _ (first (c .before .before .before .before) .pre .few))
 
--- src/question.rt:99:74
 array-borrow-prefix-ends2 : tie.Need-array-borrow-prefix-ends2
 array-borrow-prefix-ends2 c = search needs
 
--- src/question.rt:99:74
 slice-aggregate-translation-edges-2 : tie.Need-slice-aggregate-translation-edges-2
-slice-aggregate-translation-edges-2 c = ?
+slice-aggregate-translation-edges-2 c = sym (length-take-le _ _ (first (c .before .before .before .before .before) .pre .few))
 
--- src/question.rt:99:91
 slice-aggregate-translation-edges-3 : tie.Need-slice-aggregate-translation-edges-3
 slice-aggregate-translation-edges-3 c = search needs
 
--- src/question.rt:99:9
 translation-edges-requires : tie.Need-translation-edges-requires
-translation-edges-requires c κs = ?
+translation-edges-requires c κs = buildable _ _ _ _ _ _ _ _ (first (c .before .before .before .before .before .before) .pre) Translation _ _ _ refl refl refl
 
--- src/question.rt:105:9
 array-share-prefix-starts : tie.Need-array-share-prefix-starts
-array-share-prefix-starts c = ?
+array-share-prefix-starts c = simp length-append (omega (arith, starts-size (built (c .before .before .before))))
 
--- src/question.rt:105:9
 slice-aggregate-find-path : tie.Need-slice-aggregate-find-path
-slice-aggregate-find-path c = ?
+slice-aggregate-find-path c = simp (length-take, length-append) (omega (arith, starts-size (built (c .before .before .before .before))))
 
--- src/question.rt:106:9
 array-share-prefix-ends : tie.Need-array-share-prefix-ends
-array-share-prefix-ends c = ?
+array-share-prefix-ends c = simp length-append (omega (arith, ends-size (built (c .before .before .before .before))))
 
--- src/question.rt:106:9
 slice-aggregate-find-path-2 : tie.Need-slice-aggregate-find-path-2
-slice-aggregate-find-path-2 c = ?
+slice-aggregate-find-path-2 c = simp (length-take, length-append) (omega (arith, ends-size (built (c .before .before .before .before .before))))
 
--- src/question.rt:107:9
 array-share-prefix-targets : tie.Need-array-share-prefix-targets
 array-share-prefix-targets c = search needs
 
--- src/question.rt:107:9
 slice-aggregate-find-path-3 : tie.Need-slice-aggregate-find-path-3
-slice-aggregate-find-path-3 c = ?
+slice-aggregate-find-path-3 c = let k = built (c .before .before .before .before .before .before) in simp length-take (omega (arith, k .kind-edges .kept .1 .1 .1 .1 .1 .1 .1 .0, k .kind-edges .ensures .few))
 
--- src/question.rt:108:9
 array-share-prefix-starts2 : tie.Need-array-share-prefix-starts2
-array-share-prefix-starts2 c = ?
+array-share-prefix-starts2 c = simp length-append (omega (arith, starts-size-2 (c .before .before .before .before .before .before)))
 
--- src/question.rt:108:9
 slice-aggregate-find-path-4 : tie.Need-slice-aggregate-find-path-4
-slice-aggregate-find-path-4 c = ?
+slice-aggregate-find-path-4 c = simp (length-take, length-append) (omega (arith, starts-size-2 (c .before .before .before .before .before .before .before)))
 
--- src/question.rt:109:9
 array-share-prefix-ends2 : tie.Need-array-share-prefix-ends2
-array-share-prefix-ends2 c = ?
+array-share-prefix-ends2 c = simp length-append (omega (arith, ends-size-2 (c .before .before .before .before .before .before .before)))
 
--- src/question.rt:109:9
 slice-aggregate-find-path-5 : tie.Need-slice-aggregate-find-path-5
-slice-aggregate-find-path-5 c = ?
+slice-aggregate-find-path-5 c = simp (length-take, length-append) (omega (arith, ends-size-2 (c .before .before .before .before .before .before .before .before)))
 
--- src/question.rt:110:9
 array-share-prefix-targets2 : tie.Need-array-share-prefix-targets2
 array-share-prefix-targets2 c = search needs
 
--- src/question.rt:110:9
 slice-aggregate-find-path-6 : tie.Need-slice-aggregate-find-path-6
-slice-aggregate-find-path-6 c = ?
+slice-aggregate-find-path-6 c = let t = c .before .before .before .before .before .before .before .before .before in simp length-take (omega (arith, t .translation-edges .kept .1 .1 .1 .1 .1 .1 .1 .0, t .translation-edges .ensures .few))
 
--- src/question.rt:100:5
 find-path-requires : tie.Need-find-path-requires
-find-path-requires c κs = ?
+find-path-requires c κs =
+    let t = c .before .before .before .before .before .before .before .before .before .before in
+    let k = built t in
+    askable _ _ _ _ _ _ _ _ (first k .pre) _ _ (length-take-le _ _ (first k .pre .few)) _ _ _ _ _ _ _ _ (k .kind-edges .ensures) (t .translation-edges .ensures)
+    _ _ _ _ (take-at _ _ _ (starts-size k)) (take-at _ _ _ (ends-size k)) (take-at _ _ _ (starts-size-2 t)) (take-at _ _ _ (ends-size-2 t))
 
--- src/question.rt:76:1
 same-length : tie.Need-same-length
 same-length c = search needs
 
--- src/question.rt:76:1
 returns : tie.Need-returns
-returns c = ?
+returns c =
+    let p = c .before .before in
+    let t = p .before .before .before .before .before .before .before .before .before .before .before in
+    let k = built t in
+    replies-to _ _ _ _ _ _ _ _ (first k .pre) _ _ (length-take-le _ _ (first k .pre .few)) _ _ _ _ _ _ _ _ (k .kind-edges .ensures) (t .translation-edges .ensures)
+    _ _ _ _ (take-at _ _ _ (starts-size k)) (take-at _ _ _ (ends-size k)) (take-at _ _ _ (starts-size-2 t)) (take-at _ _ _ (ends-size-2 t))
+    (now (first k .args .out)) _ _ (p .find-path .ensures)
 
 pub ask-numbered-spec : {M : Type 1} → statement M
 ask-numbered-spec =
