@@ -5,22 +5,24 @@ use mathlib.Core.List.{List}
 use mathlib.Core.Option.{some}
 use Prim.Native.Nat.{ℕ, _≤_, _<_}
 use native.Mathlib.Omega.{arith}
-use lib.ListN.{length, take}
-use lib.Seq.{length-take-le}
+use lib.ListN.{length, take, getD}
+use lib.Seq.{length-take-le, getD-take}
 use Rattle.model.specs.declared.Kind.{Kind}
 use Rattle.model.specs.declared.Kind.the-variants.{Subgraph, Translation}
 use Rattle.model.specs.Bytes.{Bytes}
 use Rattle.model.specs.Record.{GraphName}
-use Rattle.model.specs.Layout.{decode}
+use Rattle.model.specs.Numbers.{number}
+use Rattle.model.specs.Layout.{nameAt, decode}
 use Rattle.record.specs.Test.{pairCount}
+use Rattle.record.proofs.Held.{Held}
 use Rattle.record.proofs.Laws.{decode-held}
 use Rattle.search.specs.declared.Reply.{Reply}
 use Rattle.search.specs.Tables.{edges, Graph, graph, Holds}
 use Rattle.search.specs.Names.{naming, nameOf}
 use Rattle.search.specs.Keys.{Buildable, KindBuilt, TranslationsBuilt}
 use Rattle.search.specs.Replies.{Askable, RepliesRight}
-use Rattle.search.specs.Union.{Questioned, relationsOf, RepliesTo}
-use Rattle.search.proofs.Sides.{record-sorted}
+use Rattle.search.specs.Union.{Numbered, Numberable, Questioned, relationsOf, RepliesTo, Named, RepliesFrom}
+use Rattle.search.proofs.Sides.{record-rise, union-order, side-first, side-second, record-sorted}
 use Rattle.search.proofs.Holding.{holds-full, holds-subgraph}
 
 few-pairs : (b : Bytes) (g : GraphName) → decode b ≡ some g → (k : Kind) → pairCount k b ≤ 1024
@@ -86,3 +88,70 @@ module _ (b c : Bytes) (firsts seconds ones twos : List ℕ) (a e : ℕ) (q : Qu
     pub replies-to : (out o : Bytes) (r : Reply) → RepliesRight (naming b c firsts seconds) tables (length firsts) a e out r o
         → RepliesTo full b c (naming b c firsts seconds) a e out r o
     replies-to out o r right g h d f = right (relationsOf full g h) (holds g h d f)
+
+-- ------------------------------------------------------------------ by the places of names
+
+module _ (b c : Bytes) (p q : ℕ) (named : Named b c p q) where
+  pub numberable : (firsts seconds ones twos : List ℕ) → length firsts ≡ 1024 → length seconds ≡ 1024 → length ones ≡ 512 → length twos ≡ 512
+      → Numberable b c (number b 0) (number c 0) firsts seconds ones twos
+  numberable firsts seconds ones twos w x y z =
+      let d = decode-held b (named .g) (named .first) in
+      let e = decode-held c (named .h) (named .second) in
+      record {
+        first-size = d .long;
+        second-size = e .long;
+        first-few = d .count;
+        second-few = e .count;
+        first-rise = record-rise b (named .g) (named .first);
+        second-rise = record-rise c (named .h) (named .second);
+        firsts-room = omega (arith, d .count, e .count);
+        seconds-room = omega (arith, d .count, e .count);
+        ones-room = omega (arith, d .count);
+        twos-room = omega (arith, e .count);
+      }
+
+  module _ (firsts seconds ones twos : List ℕ) (v : ℕ) (t : Numbered b c firsts seconds ones twos (number b 0) (number c 0) v)
+      (lf : length firsts ≡ 1024) (ls : length seconds ≡ 1024) (lo : length ones ≡ 512) (lt : length twos ≡ 512) where
+    d : Held b
+    d = decode-held b (named .g) (named .first)
+
+    e : Held c
+    e = decode-held c (named .h) (named .second)
+
+    few : v ≤ 1024
+    few = omega (arith, t .few, d .count, e .count)
+
+    first-long : length (take v firsts) ≡ v
+    first-long = length-take-le v firsts (omega (arith, few))
+
+    pub questioned : Questioned b c (take v firsts) (take v seconds) (take (number b 0) ones) (take (number c 0) twos) (getD ones p 0) (getD twos q 0)
+    questioned = record {
+      g = named .g;
+      h = named .h;
+      first = named .first;
+      second = named .second;
+      readable = rw first-long (record {
+        first-size = d .long;
+        second-size = e .long;
+        firsts-size = first-long;
+        seconds-size = length-take-le v seconds (omega (arith, few));
+        in-first = λ u l. rw (getD-take v firsts u 0 l) (omega (arith, t .firsts-in u l, d .count));
+        in-second = λ u l. rw (getD-take v seconds u 0 l) (omega (arith, t .seconds-in u l, e .count));
+        held = λ u l. rw (getD-take v firsts u 0 l, getD-take v seconds u 0 l) (t .held u l);
+      });
+      one = rw first-long (side-first b c firsts seconds ones twos (number b 0) (number c 0) v t (omega (arith, d .count)));
+      two = rw first-long (side-second b c firsts seconds ones twos (number b 0) (number c 0) v t (omega (arith, e .count)));
+      order = rw first-long (union-order b c firsts seconds ones twos (number b 0) (number c 0) v t);
+      few = rw first-long few;
+      from = rw first-long (t .ones-in p (named .from) .0);
+      to = rw first-long (t .twos-in q (named .to) .0);
+    }
+
+    pub replies-from : (full : Bool) (out o : Bytes) (r : Reply) → RepliesTo full b c (naming b c (take v firsts) (take v seconds)) (getD ones p 0) (getD twos q 0) out r o
+        → RepliesFrom full b c p q out r o
+    replies-from full out o r right g h x y =
+        let m = side-first b c firsts seconds ones twos (number b 0) (number c 0) v t (omega (arith, d .count)) .named p (named .from) in
+        let n = side-second b c firsts seconds ones twos (number b 0) (number c 0) v t (omega (arith, e .count)) .named q (named .to) in
+        let i : nameOf (naming b c (take v firsts) (take v seconds)) (getD ones p 0) ≡ nameAt b p = rw (getD-take (number b 0) ones p 0 (named .from)) at m in
+        let j : nameOf (naming b c (take v firsts) (take v seconds)) (getD twos q 0) ≡ nameAt c q = rw (getD-take (number c 0) twos q 0 (named .to)) at n in
+        rw (i, j) at (right g h x y)

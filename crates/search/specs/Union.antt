@@ -13,7 +13,7 @@ use Rattle.model.specs.Numbers.{number}
 use Rattle.model.specs.Record.{GraphName}
 use Rattle.model.specs.Layout.{recordLength, nameAt, decode}
 use Rattle.model.specs.Path.{Relations, subgraphRelations, allRelations, bestPath}
-use Rattle.model.specs.Outcome.{answered, sized}
+use Rattle.model.specs.Outcome.{Answer, answered, sized, askSubgraph, askFull}
 use Rattle.search.specs.declared.Reply.{Reply}
 use Rattle.search.specs.Tables.{InOrder}
 use Rattle.search.specs.Replies.{Replies}
@@ -83,3 +83,22 @@ abbrev pub RepliesTo : Bool → Bytes → Bytes → Names → ℕ → ℕ → By
 RepliesTo full b c ns a e out r o =
     (g h : GraphName) → decode b ≡ some g → decode c ≡ some h
     → Replies (sized (length out) (answered (nameOf ns a) (bestPath (relationsOf full g h) (nameOf ns a) (nameOf ns e)))) out r o
+
+-- two records that hold names at these places
+pub record Named (b c : Bytes) (p q : ℕ) : Type 0 where
+  pub g : GraphName
+  pub h : GraphName
+  pub first : decode b ≡ some g
+  pub second : decode c ≡ some h
+  pub from : p < number b 0
+  pub to : q < number c 0
+
+-- the right reply to a question from the name at place p of b to that at place q of c
+abbrev pub RepliesFrom : Bool → Bytes → Bytes → ℕ → ℕ → Bytes → Reply → Bytes → Type 0
+RepliesFrom full b c p q out r o =
+    (g h : GraphName) → decode b ≡ some g → decode c ≡ some h
+    → Replies (sized (length out) (answered (nameAt b p) (bestPath (relationsOf full g h) (nameAt b p) (nameAt c q)))) out r o
+
+-- the question of either kind
+abbrev pub askOf : Bool → Bytes → Bytes → ℕ → Answer
+askOf full b c room = cond full (askFull b c room) (askSubgraph b c room)

@@ -8,6 +8,8 @@ mod written;
 
 pub use breadth::search;
 pub use question::find_path;
+pub use question::is_subgraph_of;
+pub use question::translates_to;
 
 // The answer to a path question: the number of a refusal, no, or yes with the path's bytes in the output.
 pub enum Reply {
