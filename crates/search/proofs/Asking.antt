@@ -155,3 +155,30 @@ module _ (b c : Bytes) (p q : ℕ) (named : Named b c p q) where
         let i : nameOf (naming b c (take v firsts) (take v seconds)) (getD ones p 0) ≡ nameAt b p = rw (getD-take (number b 0) ones p 0 (named .from)) at m in
         let j : nameOf (naming b c (take v firsts) (take v seconds)) (getD twos q 0) ≡ nameAt c q = rw (getD-take (number c 0) twos q 0 (named .to)) at n in
         rw (i, j) at (right g h x y)
+
+-- with the counts of names as the code has read them
+module _ (b c : Bytes) (p q : ℕ) (named : Named b c p q) (m n : ℕ) (em : m ≡ number b 0) (en : n ≡ number c 0) where
+  pub numberable-read : (firsts seconds ones twos : List ℕ) → length firsts ≡ 1024 → length seconds ≡ 1024 → length ones ≡ 512 → length twos ≡ 512
+      → Numberable b c m n firsts seconds ones twos
+  numberable-read firsts seconds ones twos w x y z = rw (em, en) (numberable b c p q named firsts seconds ones twos w x y z)
+
+  -- how many there are
+  pub counts-read : (m ≤ 512) × (n ≤ 512) × (p < m) × (q < n)
+  counts-read = (
+    rw em (decode-held b (named .g) (named .first) .count),
+    rw en (decode-held c (named .h) (named .second) .count),
+    rw em (named .from),
+    rw en (named .to),
+  )
+
+  module _ (firsts seconds ones twos : List ℕ) (v : ℕ) (t : Numbered b c firsts seconds ones twos m n v)
+      (lf : length firsts ≡ 1024) (ls : length seconds ≡ 1024) (lo : length ones ≡ 512) (lt : length twos ≡ 512) where
+    exact : Numbered b c firsts seconds ones twos (number b 0) (number c 0) v
+    exact = rw (em, en) at t
+
+    pub questioned-read : Questioned b c (take v firsts) (take v seconds) (take m ones) (take n twos) (getD ones p 0) (getD twos q 0)
+    questioned-read = rw (em, en) (questioned b c p q named firsts seconds ones twos v exact lf ls lo lt)
+
+    pub replies-read : (full : Bool) (out o : Bytes) (r : Reply) → RepliesTo full b c (naming b c (take v firsts) (take v seconds)) (getD ones p 0) (getD twos q 0) out r o
+        → RepliesFrom full b c p q out r o
+    replies-read full out o r right = replies-from b c p q named firsts seconds ones twos v exact lf ls lo lt full out o r right

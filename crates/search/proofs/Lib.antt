@@ -21,3 +21,4 @@ pub mod Sides
 pub mod Holding
 pub mod Replying
 pub mod Asking
+pub mod Entry

@@ -56,7 +56,7 @@ fn expand(
 }
 
 // Searches from node a for node b: the tables then have the first of the paths with fewest steps.
-pub fn search(
+pub(crate) fn search(
     sub_starts: &[u16],
     sub_ends: &[u16],
     sub_targets: &[u16],

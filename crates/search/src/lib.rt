@@ -1,4 +1,7 @@
 // The path from one graph to another over the relations of two records: the first of those with fewest steps.
+//
+// The two public functions take any slices and equal the definitions `askSubgraph` and `askFull` of `model/specs/Outcome.antt`;
+// `specs/Replies.antt` says what each case of a reply means. `proofs/Demand.antt` has demand 3 of those definitions.
 mod breadth;
 mod edges;
 mod names;
@@ -6,8 +9,6 @@ mod question;
 mod union;
 mod written;
 
-pub use breadth::search;
-pub use question::find_path;
 pub use question::is_subgraph_of;
 pub use question::translates_to;
 

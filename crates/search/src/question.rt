@@ -1,4 +1,4 @@
-// A path question over tables: the search, and the bytes of the path that it finds.
+// The path questions, from two buffers down to tables: the tests, the numbers of the names, the steps, the search and the bytes.
 use crate::Place;
 use crate::Reply;
 use crate::breadth::search;
@@ -19,7 +19,7 @@ ghost use Rattle.search.specs.Replies.{Askable, RepliesRight, Replies};
 ghost use Rattle.model.specs.Outcome.{askSubgraph, askFull};
 
 // Finds the path from node a to node b, and writes it if there is room.
-pub fn find_path<'a>(
+fn find_path<'a>(
     first: &'a [u8],
     second: &'a [u8],
     firsts: &[u16],
@@ -150,7 +150,18 @@ fn ask_named<'a>(b: &'a [u8], c: &'a [u8], p: usize, q: usize, full: bool, out: 
     let v = number_names(b, c, m, n, &mut firsts, &mut seconds, &mut ones, &mut twos);
     let from = ones[p] as usize;
     let to = twos[q] as usize;
-    ask_numbered(b, c, &firsts[..v], &seconds[..v], &ones[..m], &twos[..n], from, to, full, out)
+    ask_numbered(
+        b,
+        c,
+        &firsts[..v],
+        &seconds[..v],
+        &ones[..m],
+        &twos[..n],
+        from,
+        to,
+        full,
+        out,
+    )
 }
 
 // The path from the graph that b describes to the one that c describes, over the pairs of both records: subgraph pairs alone, or all.

@@ -4,10 +4,6 @@ use Rattle.search.proofs.Rows.{translations-full, translations-none}
 use borrow.Author.Needs.{needs}
 use Rattle.search.proofs.edges.translation_edges.Statement.{statement}
 use Rattle.search.proofs.edges.translation_edges.Tie as tie
-use Rattle.search.proofs.edges.translation_edges.Reads as reads
-use Rattle.search.proofs.edges.translation_edges.Lts as lts
-use Rattle.search.proofs.breadth.clear.Reads as clear-reads
-use Rattle.search.proofs.edges.kind_edges.Reads as kind-edges-reads
 
 abbrev start : tie.Else1 → tie.Start
 start c = c .before .before .before .before .before .before .before .before

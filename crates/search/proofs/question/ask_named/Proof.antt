@@ -1,107 +1,106 @@
+-- The names are numbered, and the question is asked by their numbers.
+use mathlib.Core.Path.{refl}
+use Prim.Native.Nat.{_≤_, _<_}
+use lib.ListN.{length-take}
+use denote.Ref.{now}
+use Rattle.record.proofs.Laws.{decode-held}
+use Rattle.search.proofs.Asking.{numberable-read, counts-read, questioned-read, replies-read}
+use native.Mathlib.Omega.{arith}
 use borrow.Author.Needs.{needs}
 use Rattle.search.proofs.question.ask_named.Statement.{statement}
 use Rattle.search.proofs.question.ask_named.Tie as tie
-use Rattle.search.proofs.question.ask_named.Reads as reads
-use Rattle.search.proofs.question.ask_named.Lts as lts
-use Rattle.search.proofs.question.ask_numbered.Reads as ask-numbered-reads
-use Rattle.search.proofs.union.number_names.Reads as number-names-reads
-use Rattle.text.proofs.read16.Reads as read16-reads
 
--- src/question.rt:144:9
+abbrev named : tie.After-read162 → tie.Start
+named c = c .before .before .before .before .before
+
+abbrev counted : tie.After-number-names → tie.After-read162
+counted c = c .before .before .before .before .before
+
+counts : (c : tie.After-read162) → (c .before .read16 .result ≤ 512) × (c .read162 .result ≤ 512) × (named c .args .p < c .before .read16 .result) × (named c .args .q < c .read162 .result)
+counts c = counts-read _ _ _ _ (named c .pre) _ _ (c .before .read16 .ensures .0) (c .read162 .ensures .0)
+
+total : (c : tie.After-number-names) → c .number-names .result ≤ 1024
+total c = omega (arith, c .number-names .ensures .few, counts (counted c))
+
 read16-requires : tie.Need-read16-requires
-read16-requires c κs = ?
+read16-requires c κs = let s = c .before .before .before in omega (arith, decode-held _ _ (s .pre .first) .long)
 
--- src/question.rt:145:9
 read16-requires-2 : tie.Need-read16-requires-2
-read16-requires-2 c κs = ?
+read16-requires-2 c κs = let s = c .before .before .before .before in omega (arith, decode-held _ _ (s .pre .second) .long)
 
--- src/question.rt:150:38
 slice-aggregate-number-names : tie.Need-slice-aggregate-number-names
 slice-aggregate-number-names c = search needs
 
--- src/question.rt:150:51
 slice-aggregate-number-names-2 : tie.Need-slice-aggregate-number-names-2
 slice-aggregate-number-names-2 c = search needs
 
--- src/question.rt:150:65
 slice-aggregate-number-names-3 : tie.Need-slice-aggregate-number-names-3
 slice-aggregate-number-names-3 c = search needs
 
--- src/question.rt:150:76
 slice-aggregate-number-names-4 : tie.Need-slice-aggregate-number-names-4
 slice-aggregate-number-names-4 c = search needs
 
--- src/question.rt:150:9
 number-names-requires : tie.Need-number-names-requires
-number-names-requires c κs = ?
+number-names-requires c κs = let r = c .before .before .before .before in numberable-read _ _ _ _ (named r .pre) _ _ (r .before .read16 .ensures .0) (r .read162 .ensures .0) _ _ _ _ refl refl refl refl
 
--- src/question.rt:151:16
 mul-from : tie.Need-mul-from
-mul-from c = search needs
+mul-from c = let s = c .before .before .before .before in omega (arith, counts (counted s))
 
--- src/question.rt:151:16
 array-read-from : tie.Need-array-read-from
-array-read-from c = ?
+array-read-from c = let s = c .before .before .before .before in omega (arith, counts (counted s), s .number-names .kept .1 .1 .1 .1 .1 .1 .0)
 
--- src/question.rt:151:16
 cast-from : tie.Need-cast-from
-cast-from c = ?
+cast-from c = let s = c .before .before .before .before in omega (arith, s .number-names .ensures .ones-in _ (counts (counted s) .2) .0, total s)
 
--- src/question.rt:152:14
 mul-to : tie.Need-mul-to
-mul-to c = search needs
+mul-to c = let s = c .before .before .before .before in omega (arith, counts (counted s))
 
--- src/question.rt:152:14
 array-read-to : tie.Need-array-read-to
-array-read-to c = ?
+array-read-to c = let s = c .before .before .before .before in omega (arith, counts (counted s), s .number-names .kept .1 .1 .1 .1 .1 .1 .1 .0)
 
--- src/question.rt:152:14
 cast-to : tie.Need-cast-to
-cast-to c = ?
+cast-to c = let s = c .before .before .before .before in omega (arith, s .number-names .ensures .twos-in _ (counts (counted s) .3) .0, total s)
 
--- src/question.rt:153:24
 array-share-prefix-firsts : tie.Need-array-share-prefix-firsts
-array-share-prefix-firsts c = ?
+array-share-prefix-firsts c = let s = c .before .before .before .before in omega (arith, total s, s .number-names .kept .1 .1 .1 .1 .0)
 
--- src/question.rt:153:24
 slice-aggregate-ask-numbered : tie.Need-slice-aggregate-ask-numbered
-slice-aggregate-ask-numbered c = ?
+slice-aggregate-ask-numbered c = let s = c .before .before .before .before .before in simp length-take (omega (arith, s .number-names .kept .1 .1 .1 .1 .0, total s))
 
--- src/question.rt:153:38
 array-share-prefix-seconds : tie.Need-array-share-prefix-seconds
-array-share-prefix-seconds c = ?
+array-share-prefix-seconds c = let s = c .before .before .before .before .before in omega (arith, total s, s .number-names .kept .1 .1 .1 .1 .1 .0)
 
--- src/question.rt:153:38
 slice-aggregate-ask-numbered-2 : tie.Need-slice-aggregate-ask-numbered-2
-slice-aggregate-ask-numbered-2 c = ?
+slice-aggregate-ask-numbered-2 c = let s = c .before .before .before .before .before .before in simp length-take (omega (arith, s .number-names .kept .1 .1 .1 .1 .1 .0, total s))
 
--- src/question.rt:153:53
 array-share-prefix-ones : tie.Need-array-share-prefix-ones
-array-share-prefix-ones c = ?
+array-share-prefix-ones c = let s = c .before .before .before .before .before .before in omega (arith, counts (counted s), s .number-names .kept .1 .1 .1 .1 .1 .1 .0)
 
--- src/question.rt:153:53
 slice-aggregate-ask-numbered-3 : tie.Need-slice-aggregate-ask-numbered-3
-slice-aggregate-ask-numbered-3 c = ?
+slice-aggregate-ask-numbered-3 c = let s = c .before .before .before .before .before .before .before in simp length-take (omega (arith, s .number-names .kept .1 .1 .1 .1 .1 .1 .0, counts (counted s)))
 
--- src/question.rt:153:65
 array-share-prefix-twos : tie.Need-array-share-prefix-twos
-array-share-prefix-twos c = ?
+array-share-prefix-twos c = let s = c .before .before .before .before .before .before .before in omega (arith, counts (counted s), s .number-names .kept .1 .1 .1 .1 .1 .1 .1 .0)
 
--- src/question.rt:153:65
 slice-aggregate-ask-numbered-4 : tie.Need-slice-aggregate-ask-numbered-4
-slice-aggregate-ask-numbered-4 c = ?
+slice-aggregate-ask-numbered-4 c = let s = c .before .before .before .before .before .before .before .before in simp length-take (omega (arith, s .number-names .kept .1 .1 .1 .1 .1 .1 .1 .0, counts (counted s)))
 
--- src/question.rt:153:5
 ask-numbered-requires : tie.Need-ask-numbered-requires
-ask-numbered-requires c κs = ?
+ask-numbered-requires c κs =
+    let s = c .before .before .before .before .before .before .before .before .before in
+    questioned-read _ _ _ _ (named (counted s) .pre) _ _ (counted s .before .read16 .ensures .0) (counted s .read162 .ensures .0) _ _ _ _ _ (s .number-names .ensures)
+    (s .number-names .kept .1 .1 .1 .1 .0) (s .number-names .kept .1 .1 .1 .1 .1 .0) (s .number-names .kept .1 .1 .1 .1 .1 .1 .0) (s .number-names .kept .1 .1 .1 .1 .1 .1 .1 .0)
 
--- src/question.rt:140:1
 same-length : tie.Need-same-length
 same-length c = search needs
 
--- src/question.rt:140:1
 returns : tie.Need-returns
-returns c = ?
+returns c =
+    let a = c .before .before in
+    let s = a .before .before .before .before .before .before .before .before .before .before in
+    replies-read _ _ _ _ (named (counted s) .pre) _ _ (counted s .before .read16 .ensures .0) (counted s .read162 .ensures .0) _ _ _ _ _ (s .number-names .ensures)
+    (s .number-names .kept .1 .1 .1 .1 .0) (s .number-names .kept .1 .1 .1 .1 .1 .0) (s .number-names .kept .1 .1 .1 .1 .1 .1 .0) (s .number-names .kept .1 .1 .1 .1 .1 .1 .1 .0)
+    (named (counted s) .args .full) (now (named (counted s) .args .out)) _ _ (a .ask-numbered .ensures)
 
 pub ask-named-spec : {M : Type 1} → statement M
 ask-named-spec =

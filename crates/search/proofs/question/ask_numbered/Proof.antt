@@ -1,6 +1,5 @@
 -- Both kinds of steps are built in the front of tables for the most names there can be.
 use mathlib.Core.Path.{_≡_, refl, sym, _∙_}
-use Prim.Native.Nat.{_≤_}
 use lib.ListN.{length, length-append, length-take}
 use lib.Seq.{length-take-le, take-at}
 use denote.Ref.{now}
@@ -10,11 +9,6 @@ use native.Mathlib.Omega.{arith}
 use borrow.Author.Needs.{needs}
 use Rattle.search.proofs.question.ask_numbered.Statement.{statement}
 use Rattle.search.proofs.question.ask_numbered.Tie as tie
-use Rattle.search.proofs.question.ask_numbered.Reads as reads
-use Rattle.search.proofs.question.ask_numbered.Lts as lts
-use Rattle.search.proofs.edges.kind_edges.Reads as kind-edges-reads
-use Rattle.search.proofs.edges.translation_edges.Reads as translation-edges-reads
-use Rattle.search.proofs.question.find_path.Reads as find-path-reads
 
 abbrev start : tie.After-slice-known → tie.Start
 start c = c .before .before .before .before .before .before .before
