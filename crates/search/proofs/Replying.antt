@@ -1,0 +1,82 @@
+-- From what a search tells to the reply of a question.
+use mathlib.Core.Path.{_≡_, refl, sym, _∙_}
+use mathlib.Core.Bool.{Bool, true, false}
+use mathlib.Core.List.{List}
+use mathlib.Core.Option.{some, none}
+use Prim.Native.Nat.{ℕ}
+use native.Mathlib.Omega.{arith}
+use lib.ListN.{length, take, getD}
+use lib.Seq.{length-take-le}
+use lib.Dec.{leb}
+use Rattle.model.specs.Bytes.{Bytes}
+use Rattle.model.specs.Path.{Relations, bestPath, pathBytes}
+use Rattle.model.specs.Outcome.{found, answered, sized, outputAfter}
+use Rattle.search.specs.declared.Reply.the-variants.{Refused, No, Yes}
+use Rattle.search.specs.declared.Place.{Place}
+use Rattle.search.specs.declared.Place.the-variants.{Found, NotFound}
+use Rattle.search.specs.Tables.{Graph, Holds}
+use Rattle.search.specs.Queue.{queued, Searchable, Reached, Kinds, Told, walk}
+use Rattle.search.specs.Names.{Names, nameOf, pathBack, startName, Readback}
+use Rattle.search.specs.Replies.{Askable, RepliesRight}
+
+-- ------------------------------------------------------------------ tables in front of longer ones
+
+pub searchable : (ns : Names) (G : Graph) (n a b : ℕ) (nodes parents kinds places : List ℕ) → Askable ns G n a b
+    → length nodes ≡ 1024 → length parents ≡ 1024 → length kinds ≡ 1024 → length places ≡ 1024
+    → Searchable G a b (queued (take n nodes) (take n parents) (take n kinds) (take n places) 0)
+searchable ns G n a b nodes parents kinds places q w x y z =
+    let e = length-take-le n nodes (omega (arith, q .few)) in
+    let f = length-take-le n parents (omega (arith, q .few)) in
+    let g = length-take-le n kinds (omega (arith, q .few)) in
+    let h = length-take-le n places (omega (arith, q .few)) in
+    record {
+      subgraphs = rw h (q .subgraphs);
+      translations = rw h (q .translations);
+      room = record { nodes = omega arith; parents = omega arith; kinds = omega arith; small = omega (arith, q .few) };
+      from = omega (arith, q .from);
+      to = omega (arith, q .to);
+    }
+
+module _ (ns : Names) (G : Graph) (n a b : ℕ) (q : Askable ns G n a b) (size : ℕ) (is : size ≡ n) where
+  pub reply-no : (nodes parents kinds : List ℕ) (out : Bytes) (p : Place) → Told G size a b nodes parents kinds p → p ≡ NotFound → RepliesRight ns G n a b out No out
+  reply-no nodes parents kinds out p t e rs holds =
+      let f : bestPath rs (nameOf ns a) (nameOf ns b) ≡ none = rw e at t (nameOf ns) rs (rw is holds) in
+      rw f (refl, refl)
+
+  -- what was found, and what is lent of it
+  module _ (ys ps ks nodes parents kinds : List ℕ) (j : ℕ) (p : Place) (t : Told G size a b ys ps ks p) (at-j : p ≡ Found j) (en : nodes ≡ ys) (ep : parents ≡ ps) (ek : kinds ≡ ks) where
+    told : Told G size a b ys ps ks (Found j)
+    told = rw at-j at t
+
+    reached : Reached n a b ys ps ks j
+    reached = rw is at (told .0)
+
+    pub found-back : length ys ≡ n → Readback ns nodes parents j × Kinds kinds j
+    found-back l = rw (en, ep, ek) (
+      record {
+        readable = rw (q .readable .firsts-size) (q .readable);
+        back = rw (q .readable .firsts-size) (reached .back);
+        small = omega (arith, reached .back .nodes-long, q .few);
+      },
+      reached .kind-steps,
+    )
+
+    abbrev bytes : Bytes
+    bytes = pathBytes (startName ns nodes) (pathBack ns nodes parents kinds j)
+
+    answer-is : (rs : Relations) → Holds G n (nameOf ns) rs → answered (nameOf ns a) (bestPath rs (nameOf ns a) (nameOf ns b)) ≡ found bytes
+    answer-is rs holds =
+        let e : bestPath rs (nameOf ns a) (nameOf ns b) ≡ some (walk (nameOf ns) ys ps ks j j) = told .1 (nameOf ns) rs (rw is holds) in
+        let f : getD ys 0 0 ≡ a = reached .first in
+        rw (e, en, ep, ek, f)
+
+    module _ (out o : Bytes) (r : Bool) (written : (r ≡ leb (length bytes) (length out)) × (o ≡ outputAfter (sized (length out) (found bytes)) out)) where
+      pub reply-yes : r ≡ true → RepliesRight ns G n a b out Yes o
+      reply-yes e rs holds =
+          let l : leb (length bytes) (length out) ≡ true = sym (written .0) ∙ e in
+          rw (answer-is rs holds, l) (refl, written .1 ∙ rw l)
+
+      pub reply-short : r ≡ false → RepliesRight ns G n a b out (Refused 17) o
+      reply-short e rs holds =
+          let l : leb (length bytes) (length out) ≡ false = sym (written .0) ∙ e in
+          rw (answer-is rs holds, l) (refl, written .1 ∙ rw l)

@@ -1,0 +1,6 @@
+pub mod Tables
+pub mod Queue
+pub mod Names
+pub mod Keys
+pub mod Replies
+pub mod Union

@@ -1,0 +1,104 @@
+-- Numbers for the names of two records together, in the order of the names: by place in each record the number, and by number
+-- the place in each record plus 1, or 0 where the record does not hold the name. Assumes nothing.
+use mathlib.Core.Path.{_≡_}
+use mathlib.Core.Bool.{Bool, cond}
+use mathlib.Core.List.{List}
+use mathlib.Core.Option.{some}
+use Prim.Native.Nat.{ℕ, _+_, _-_, _≤_, _<_}
+use lib.ListN.{length, getD}
+use Rattle.model.specs.declared.Order.{Order}
+use Rattle.model.specs.declared.Order.the-variants.{Less, Equal, Greater}
+use Rattle.model.specs.Bytes.{Bytes, compareBytes}
+use Rattle.model.specs.Numbers.{number}
+use Rattle.model.specs.Record.{GraphName}
+use Rattle.model.specs.Layout.{recordLength, nameAt, decode}
+use Rattle.model.specs.Path.{Relations, subgraphRelations, allRelations, bestPath}
+use Rattle.model.specs.Outcome.{Answer, answered, sized, askSubgraph, askFull}
+use Rattle.search.specs.declared.Reply.{Reply}
+use Rattle.search.specs.Tables.{InOrder}
+use Rattle.search.specs.Replies.{Replies}
+use Rattle.search.specs.Names.{Names, naming, nameOf, Readable}
+
+-- the first n names ascend
+abbrev pub NamesRise : Bytes → ℕ → Type 0
+NamesRise b n = (p q : ℕ) → p < q → q < n → compareBytes (nameAt b p) (nameAt b q) ≡ Less
+
+-- the first i names of b and the first j of c have n numbers
+pub record Numbered (b c : Bytes) (firsts seconds ones twos : List ℕ) (i j n : ℕ) : Type 0 where
+  pub few : n ≤ i + j
+  pub ones-in : (p : ℕ) → p < i → (getD ones p 0 < n) × (getD firsts (getD ones p 0) 0 ≡ p + 1)
+  pub twos-in : (p : ℕ) → p < j → (getD twos p 0 < n) × (getD seconds (getD twos p 0) 0 ≡ p + 1)
+  pub firsts-in : (v : ℕ) → v < n → getD firsts v 0 ≤ i
+  pub seconds-in : (v : ℕ) → v < n → getD seconds v 0 ≤ j
+  pub held : (v : ℕ) → v < n → getD firsts v 0 ≡ 0 → 0 < getD seconds v 0
+  pub agree : (v : ℕ) → v < n → 0 < getD firsts v 0 → 0 < getD seconds v 0 → nameAt b (getD firsts v 0 - 1) ≡ nameAt c (getD seconds v 0 - 1)
+  pub order : (u v : ℕ) → u < v → v < n
+      → compareBytes (nameOf (naming b c firsts seconds) u) (nameOf (naming b c firsts seconds) v) ≡ Less
+
+-- two records whose names can be numbered, with room for the numbers
+pub record Numberable (b c : Bytes) (m n : ℕ) (firsts seconds ones twos : List ℕ) : Type 0 where
+  pub first-size : length b ≡ recordLength
+  pub second-size : length c ≡ recordLength
+  pub first-few : m ≤ 512
+  pub second-few : n ≤ 512
+  pub first-rise : NamesRise b m
+  pub second-rise : NamesRise c n
+  pub firsts-room : m + n ≤ length firsts
+  pub seconds-room : m + n ≤ length seconds
+  pub ones-room : m ≤ length ones
+  pub twos-room : n ≤ length twos
+
+-- which record the next number's name is from: the first alone, both, or the second alone
+abbrev pub Next : Bytes → Bytes → ℕ → ℕ → ℕ → ℕ → Order → Type 0
+Next b c m n i j Less = (i < m) × (j < n → compareBytes (nameAt b i) (nameAt c j) ≡ Less)
+Next b c m n i j Equal = (i < m) × (j < n) × (nameAt b i ≡ nameAt c j)
+Next b c m n i j Greater = (j < n) × (i < m → compareBytes (nameAt c j) (nameAt b i) ≡ Less)
+
+-- the first m places of a record have numbers below size, of the names there
+pub record Side (b : Bytes) (m size : ℕ) (numbers : List ℕ) (name : ℕ → Bytes) : Type 0 where
+  pub count : length numbers ≡ m
+  pub small : (p : ℕ) → p < m → getD numbers p 0 < size
+  pub named : (p : ℕ) → p < m → name (getD numbers p 0) ≡ nameAt b p
+
+-- a question about two records, by the numbers of their names: from number a to number e
+pub record Questioned (b c : Bytes) (firsts seconds ones twos : List ℕ) (a e : ℕ) : Type 0 where
+  pub g : GraphName
+  pub h : GraphName
+  pub first : decode b ≡ some g
+  pub second : decode c ≡ some h
+  pub readable : Readable (naming b c firsts seconds) (length firsts)
+  pub one : Side b (number b 0) (length firsts) ones (nameOf (naming b c firsts seconds))
+  pub two : Side c (number c 0) (length firsts) twos (nameOf (naming b c firsts seconds))
+  pub order : InOrder (nameOf (naming b c firsts seconds)) (length firsts)
+  pub few : length firsts ≤ 1024
+  pub from : a < length firsts
+  pub to : e < length firsts
+
+-- the relations that a question goes by
+abbrev pub relationsOf : Bool → GraphName → GraphName → Relations
+relationsOf full g h = cond full (allRelations g h) (subgraphRelations g h)
+
+-- the right reply, from what the records mean
+abbrev pub RepliesTo : Bool → Bytes → Bytes → Names → ℕ → ℕ → Bytes → Reply → Bytes → Type 0
+RepliesTo full b c ns a e out r o =
+    (g h : GraphName) → decode b ≡ some g → decode c ≡ some h
+    → Replies (sized (length out) (answered (nameOf ns a) (bestPath (relationsOf full g h) (nameOf ns a) (nameOf ns e)))) out r o
+
+-- two records that hold names at these places
+pub record Named (b c : Bytes) (p q : ℕ) : Type 0 where
+  pub g : GraphName
+  pub h : GraphName
+  pub first : decode b ≡ some g
+  pub second : decode c ≡ some h
+  pub from : p < number b 0
+  pub to : q < number c 0
+
+-- the right reply to a question from the name at place p of b to that at place q of c
+abbrev pub RepliesFrom : Bool → Bytes → Bytes → ℕ → ℕ → Bytes → Reply → Bytes → Type 0
+RepliesFrom full b c p q out r o =
+    (g h : GraphName) → decode b ≡ some g → decode c ≡ some h
+    → Replies (sized (length out) (answered (nameAt b p) (bestPath (relationsOf full g h) (nameAt b p) (nameAt c q)))) out r o
+
+-- the question of either kind
+abbrev pub askOf : Bool → Bytes → Bytes → ℕ → Answer
+askOf full b c room = cond full (askFull b c room) (askSubgraph b c room)
