@@ -6,6 +6,9 @@ use Rattle.model.specs.declared.Strictness.{Strictness}
 use Rattle.model.specs.declared.Strictness.the-variants.{Fine, Faulty}
 use lib.ListN.{length}
 use Rattle.model.specs.Bytes.{Bytes}
+use Rattle.model.specs.Outcome.{Answer, refusal, notFound, found}
+use Rattle.search.specs.declared.Reply.{Reply}
+use Rattle.search.specs.declared.Reply.the-variants.{Refused, No, Yes}
 use Rattle.model.specs.Questions.{Part, PairParts}
 
 abbrev pub oneIf : Bool → ℕ
@@ -45,3 +48,25 @@ toSize = orZero (λ (p : PairParts). p .to .size)
 abbrev pub strictNumber : Strictness → ℕ
 strictNumber Fine = 0
 strictNumber (Faulty n) = n + 1
+
+-- a path question's number, and what the answer then holds
+abbrev pub answerNumber : Answer → ℕ
+answerNumber (refusal n) = n
+answerNumber notFound = 0
+answerNumber (found bytes) = 0
+
+abbrev pub answerValue : ℕ → Answer → ℕ
+answerValue old (refusal n) = old
+answerValue old notFound = 0
+answerValue old (found bytes) = 1
+
+-- the same of the reply
+abbrev pub replyNumber : Reply → ℕ
+replyNumber (Refused n) = n
+replyNumber No = 0
+replyNumber Yes = 0
+
+abbrev pub replyValue : ℕ → Reply → ℕ
+replyValue old (Refused n) = old
+replyValue old No = 0
+replyValue old Yes = 1

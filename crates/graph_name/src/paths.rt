@@ -1,0 +1,45 @@
+// The path questions between the graphs of two records.
+use search::Reply;
+
+ghost use mathlib.Core.Path.{_≡_};
+ghost use lib.ListN.{length};
+ghost use Rattle.model.specs.Outcome.{askSubgraph, askFull, outputAfter};
+ghost use Rattle.graph_name.specs.Values.{answerNumber, answerValue, replyNumber, replyValue};
+
+// Whether the first graph is a subgraph of the second; on a yes the path's bytes go to the front of the output.
+#[no_mangle]
+pub extern "C" fn graph_name_is_subgraph_of<'a>(buf: &'a [u8], other: &'a [u8], out: &mut [u8], answer: &mut u64) -> u32
+    ensures { λ r. ⌜ r ≡ answerNumber (askSubgraph (now (buf .entry)) (now (other .entry)) (length (now (out .entry)))) ⌝ }
+    ensures { λ _. ⌜ now (out .exit) ≡ outputAfter (askSubgraph (now (buf .entry)) (now (other .entry)) (length (now (out .entry)))) (now (out .entry)) ⌝ }
+    ensures { λ _. ⌜ now (answer .exit) ≡ answerValue (now (answer .entry)) (askSubgraph (now (buf .entry)) (now (other .entry)) (length (now (out .entry)))) ⌝ }
+{
+    reply_out(search::is_subgraph_of(buf, other, out), answer)
+}
+
+// Whether coordinates of the first graph translate to the second; on a yes the path's bytes go to the front of the output.
+#[no_mangle]
+pub extern "C" fn graph_name_translates_to<'a>(buf: &'a [u8], other: &'a [u8], out: &mut [u8], answer: &mut u64) -> u32
+    ensures { λ r. ⌜ r ≡ answerNumber (askFull (now (buf .entry)) (now (other .entry)) (length (now (out .entry)))) ⌝ }
+    ensures { λ _. ⌜ now (out .exit) ≡ outputAfter (askFull (now (buf .entry)) (now (other .entry)) (length (now (out .entry)))) (now (out .entry)) ⌝ }
+    ensures { λ _. ⌜ now (answer .exit) ≡ answerValue (now (answer .entry)) (askFull (now (buf .entry)) (now (other .entry)) (length (now (out .entry)))) ⌝ }
+{
+    reply_out(search::translates_to(buf, other, out), answer)
+}
+
+// Hands out a reply: a refusal's number, or yes or no.
+fn reply_out(reply: Reply, answer: &mut u64) -> u32
+    ensures { λ r. ⌜ r ≡ replyNumber reply ⌝ }
+    ensures { λ _. ⌜ now (answer .exit) ≡ replyValue (now (answer .entry)) reply ⌝ }
+{
+    match reply {
+        Reply::Refused(n) => n,
+        Reply::No => {
+            *answer = 0;
+            0
+        }
+        Reply::Yes => {
+            *answer = 1;
+            0
+        }
+    }
+}
