@@ -16,9 +16,9 @@ use Rattle.model.specs.Numbers.{le16}
 use Rattle.model.specs.Path.{Step, pathBodies, pathBytes}
 use Rattle.model.specs.Outcome.{found, sized, outputAfter}
 use Rattle.text.proofs.Put.{length-put, take-put, drop-put, put-append}
-use Rattle.search.specs.Queue.{Kinds}
+use Rattle.paths.specs.Queue.{Kinds}
 use Rattle.search.specs.Names.{Names, nameOf, entriesWith, pathBack, startName, Readback, Writable}
-use Rattle.search.proofs.Walk.{lastStep, length-step, length-first}
+use Rattle.paths.proofs.Walk.{lastStep, length-step, length-first}
 use Rattle.search.proofs.PathBytes.{entries-snoc, length-entries, entries-path, bodies-snoc, length-path, number-kind, readback-parent, path-last, path-first, no-steps, bodiesTo, bodies-step}
 
 put-is : (out : Bytes) (at : ℕ) (t : Bytes) → put out at t ≡ take at out ++ (t ++ drop (at + length t) out)

@@ -9,7 +9,7 @@ use Rattle.model.specs.Bytes.{Bytes}
 use Rattle.model.specs.Numbers.{le16}
 use Rattle.model.specs.Layout.{recordLength, nameAt}
 use Rattle.model.specs.Path.{Step, kindNumber, pathBodies}
-use Rattle.search.specs.Queue.{walk, Back, Kinds}
+use Rattle.paths.specs.Queue.{walk, Back, Kinds}
 
 -- two records, and by node its place in each plus 1, or 0 where the record does not hold its name
 pub record Names : Type 0 where

@@ -11,7 +11,7 @@ ghost use Rattle.model.specs.Bytes.{Bytes, put};
 ghost use Rattle.model.specs.Numbers.{le16};
 ghost use Rattle.model.specs.Path.{pathBytes, pathBodies};
 ghost use Rattle.model.specs.Outcome.{found, sized, outputAfter};
-ghost use Rattle.search.specs.Queue.{walk, Kinds};
+ghost use Rattle.paths.specs.Queue.{walk, Kinds};
 ghost use Rattle.search.specs.Names.{naming, entriesWith, pathBack, startName, Readback, Writable};
 
 // How many steps lead from the first place to place j.
