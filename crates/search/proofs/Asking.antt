@@ -17,7 +17,7 @@ use Rattle.record.specs.Test.{pairCount}
 use Rattle.record.proofs.Held.{Held}
 use Rattle.record.proofs.Laws.{decode-held}
 use Rattle.search.specs.declared.Reply.{Reply}
-use Rattle.search.specs.Tables.{edges, Graph, graph, Holds}
+use Rattle.paths.specs.Tables.{edges, Graph, graph, Holds}
 use Rattle.search.specs.Names.{naming, nameOf}
 use Rattle.search.specs.Keys.{Buildable, KindBuilt, TranslationsBuilt}
 use Rattle.search.specs.Replies.{Askable, RepliesRight}

@@ -18,8 +18,8 @@ use Rattle.model.specs.Outcome.{refusal, found, answered, nameOr, sized, ask, a
 use Rattle.model.specs.Statements.{Ascending, Valid, Relation, bySubgraph, byEither, RightBetween, Right, AnswersRight, Local, Demand3}
 use Rattle.text.proofs.Order.{pairs-order}
 use Rattle.text.proofs.Ascending.{insertAll-ascending, insertAll-members}
-use Rattle.search.specs.Tables.{pairOf, related}
-use Rattle.search.proofs.Right.{RightPath, SameReach, right-local, bestPath-right}
+use Rattle.paths.specs.Tables.{pairOf, related}
+use Rattle.paths.proofs.Right.{RightPath, SameReach, right-local, bestPath-right}
 use Rattle.record.proofs.Laws.{decoded, decode-held}
 
 -- the lists of r are ascending and stand for R

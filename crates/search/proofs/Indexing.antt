@@ -8,7 +8,7 @@ use mathlib.Core.List.{List}
 use lib.ListN.{length, getD, set, length-set}
 use lib.Seq.{getD-set-same, getD-set-other}
 use Rattle.search.specs.Keys.{Rises, Indexed}
-use Rattle.search.proofs.Tree.{below}
+use Rattle.paths.proofs.Tree.{below}
 
 pub record Indexing (keys starts₀ ends₀ starts ends : List ℕ) (v e : ℕ) : Type 0 where
   pub as-starts : length starts ≡ length starts₀

@@ -9,16 +9,15 @@ use native.Mathlib.Decide.{ℕ-discrete}
 use native.Mathlib.Omega.{arith}
 use lib.ListN.{length, take, drop, getD, length-append}
 use lib.Seq.{take-append-le, drop-append-le, take-take, take-add, drop-at, length-take-le}
-use lib.Dec.{leb}
 use borrow.Author.Tests.{le-leb, lt-leb}
 use Rattle.model.specs.Bytes.{Bytes, put}
 use Rattle.model.specs.Numbers.{le16}
 use Rattle.model.specs.Path.{Step, pathBodies, pathBytes}
 use Rattle.model.specs.Outcome.{found, sized, outputAfter}
 use Rattle.text.proofs.Put.{length-put, take-put, drop-put, put-append}
-use Rattle.search.specs.Queue.{Kinds}
-use Rattle.search.specs.Names.{Names, nameOf, entriesWith, pathBack, startName, Readback, Writable}
-use Rattle.search.proofs.Walk.{lastStep, length-step, length-first}
+use Rattle.paths.specs.Queue.{Kinds}
+use Rattle.search.specs.Names.{Names, nameOf, entriesWith, pathBack, startName, Readback, Writable, NamesWritten, PathWritten}
+use Rattle.paths.proofs.Walk.{lastStep, length-step, length-first}
 use Rattle.search.proofs.PathBytes.{entries-snoc, length-entries, entries-path, bodies-snoc, length-path, number-kind, readback-parent, path-last, path-first, no-steps, bodiesTo, bodies-step}
 
 put-is : (out : Bytes) (at : ℕ) (t : Bytes) → put out at t ≡ take at out ++ (t ++ drop (at + length t) out)
@@ -74,12 +73,6 @@ rows-more out at es bs e b l m =
     rw (put-swap (put out 2 es) (2 + length es) at e bs (omega arith) (omega arith), put-append out 2 es e (omega arith))
     (put-append (put out 2 (es ++ e)) at bs b (omega arith))
 
--- the path to place j is written, and r is the place behind it
-abbrev pub Written : Names → List ℕ → List ℕ → List ℕ → ℕ → Bytes → ℕ → ℕ → ℕ → Bytes → Type 0
-Written ns nodes parents kinds j out at kind r o =
-    (r ≡ at + length (pathBodies (startName ns nodes) (pathBack ns nodes parents kinds j)))
-    × (o ≡ put (put out 2 (entriesWith kind (startName ns nodes) (pathBack ns nodes parents kinds j))) at (pathBodies (startName ns nodes) (pathBack ns nodes parents kinds j)))
-
 module _ (ns : Names) (nodes parents kinds : List ℕ) (j step : ℕ) (out : Bytes) (at : ℕ) (w : Writable ns nodes parents kinds j step out at) where
   abbrev path : List Step
   path = pathBack ns nodes parents kinds j
@@ -113,7 +106,7 @@ module _ (ns : Names) (nodes parents kinds : List ℕ) (j step : ℕ) (out : Byt
 
     -- the first name
     pub names-first : (r : ℕ) (o₁ o₂ : Bytes) → o₁ ≡ put out 2 (le16 (length name) ++ le16 kind) → (r ≡ at + length name) × (o₂ ≡ put o₁ at name)
-        → Written ns nodes parents kinds j out at kind r o₂
+        → NamesWritten ns nodes parents kinds j out at kind r o₂
     unfolding entriesWith pathBodies
     names-first r o₁ o₂ e f = rw (alone, ← is-start) (f .0, f .1 ∙ rw e)
 
@@ -142,9 +135,9 @@ module _ (ns : Names) (nodes parents kinds : List ℕ) (j step : ℕ) (out : Byt
       further-fits end e = omega (arith, w .bodies, ap length is, bodies-step ns nodes parents kinds j (w .from) (further-place z))
 
       -- a further one
-      pub names-more : (end r : ℕ) (o₁ o₂ o₃ : Bytes) → Written ns nodes parents kinds (getD parents j 0) out at (getD kinds j 0) end o₁
+      pub names-more : (end r : ℕ) (o₁ o₂ o₃ : Bytes) → NamesWritten ns nodes parents kinds (getD parents j 0) out at (getD kinds j 0) end o₁
           → o₂ ≡ put o₁ (2 + 4 * step) (le16 (length name) ++ le16 kind) → (r ≡ end + length name) × (o₃ ≡ put o₂ end name)
-          → Written ns nodes parents kinds j out at kind r o₃
+          → NamesWritten ns nodes parents kinds j out at kind r o₃
       names-more end r o₁ o₂ o₃ d e f =
           let l = bodies-step ns nodes parents kinds j (w .from) (further-place z) in
           let m = length-entries (getD kinds j 0) start ss in
@@ -182,7 +175,7 @@ module _ (ns : Names) (nodes parents kinds : List ℕ) (j : ℕ) (back : Readbac
   whole-size : length bytes ≡ 6 + 4 * step + bodies
   whole-size = omega (arith, length-path (startName ns nodes) (pathBack ns nodes parents kinds j))
 
-  pub path-short : length out < 6 + 4 * step + bodies → (false ≡ leb (length bytes) (length out)) × (out ≡ outputAfter (sized (length out) (found bytes)) out)
+  pub path-short : length out < 6 + 4 * step + bodies → PathWritten ns nodes parents kinds j out false out
   path-short l = let e = lt-leb (length bytes) (length out) (omega (arith, whole-size)) in rw e (refl, refl)
 
   module _ (room : 6 + 4 * step + bodies ≤ length out) (o₁ : Bytes) (count : o₁ ≡ put out 0 (le16 (step + 1))) where
@@ -196,8 +189,8 @@ module _ (ns : Names) (nodes parents kinds : List ℕ) (j : ℕ) (back : Readbac
       bodies = omega (arith, ap length count, length-put out 0 (le16 (step + 1)) (omega arith));
     }
 
-    pub path-written : (r : ℕ) (o₂ : Bytes) → Written ns nodes parents kinds j o₁ (6 + 4 * step) 2 r o₂
-        → (true ≡ leb (length bytes) (length out)) × (o₂ ≡ outputAfter (sized (length out) (found bytes)) out)
+    pub path-written : (r : ℕ) (o₂ : Bytes) → NamesWritten ns nodes parents kinds j o₁ (6 + 4 * step) 2 r o₂
+        → PathWritten ns nodes parents kinds j out true o₂
     path-written r o₂ e =
         let f = le-leb (length bytes) (length out) (omega (arith, whole-size)) in
         let g = whole-path (startName ns nodes) (pathBack ns nodes parents kinds j) out (omega (arith, whole-size)) in

@@ -1,16 +1,4 @@
-pub mod PathOrder
-pub mod Leaving
-pub mod First
-pub mod Short
-pub mod Right
 pub mod Demand
-pub mod Visit
-pub mod Tree
-pub mod Shortest
-pub mod Progress
-pub mod Walk
-pub mod State
-pub mod Turn
 pub mod PathBytes
 pub mod Joined
 pub mod Numbering

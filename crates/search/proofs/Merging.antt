@@ -7,7 +7,7 @@ use mathlib.Core.List.{List}
 use lib.ListN.{length, getD, set, length-set}
 use lib.Seq.{getD-set-same, getD-set-other}
 use Rattle.search.specs.Keys.{Rises, Among, Merged}
-use Rattle.search.proofs.Tree.{below}
+use Rattle.paths.proofs.Tree.{below}
 
 wider : (l : List ℕ) (n m x : ℕ) → n ≤ m → Among l n x → Among l m x
 wider l n m x le w = record { at = w .at; lt = let q = w .lt in omega arith; is = w .is }

@@ -15,7 +15,7 @@ use Rattle.text.proofs.Order.{bytes-order}
 use Rattle.text.proofs.Ascending.{greater-less}
 use Rattle.search.specs.Names.{Names, naming, nameOf}
 use Rattle.search.specs.Union.{NamesRise, Numbered, Next}
-use Rattle.search.proofs.Tree.{below}
+use Rattle.paths.proofs.Tree.{below}
 
 pub next-compared : (b c : Bytes) (m n i j : ℕ) → i < m → j < n → (o : Order) → o ≡ compareBytes (nameAt b i) (nameAt c j) → Next b c m n i j o
 next-compared b c m n i j l k Less e = (l, λ x. sym e)

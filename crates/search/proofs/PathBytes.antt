@@ -9,9 +9,9 @@ use Rattle.model.specs.Bytes.{Bytes}
 use Rattle.model.specs.Numbers.{le16}
 use Rattle.model.specs.Layout.{nameAt}
 use Rattle.model.specs.Path.{Step, kindNumber, pathEntries, pathBodies, pathBytes}
-use Rattle.search.specs.Queue.{kindOf, Back}
+use Rattle.paths.specs.Queue.{kindOf, Back}
 use Rattle.search.specs.Names.{Names, nameOf, entriesWith, pathBack, startName, Readback}
-use Rattle.search.proofs.Walk.{lastStep, walk-first, walk-step, length-step}
+use Rattle.paths.proofs.Walk.{lastStep, walk-first, walk-step, length-step}
 
 -- a name is no longer than the buffer that it is a part of
 pub length-name : (b : Bytes) (i : ℕ) → length (nameAt b i) ≤ length b

@@ -12,10 +12,10 @@ use Rattle.model.specs.Bytes.{Bytes}
 use Rattle.model.specs.Path.{Relations, bestPath, pathBytes}
 use Rattle.model.specs.Outcome.{found, answered, sized, outputAfter}
 use Rattle.search.specs.declared.Reply.the-variants.{Refused, No, Yes}
-use Rattle.search.specs.declared.Place.{Place}
-use Rattle.search.specs.declared.Place.the-variants.{Found, NotFound}
-use Rattle.search.specs.Tables.{Graph, Holds}
-use Rattle.search.specs.Queue.{queued, Searchable, Reached, Kinds, Told, walk}
+use Rattle.paths.specs.declared.Place.{Place}
+use Rattle.paths.specs.declared.Place.the-variants.{Found, NotFound}
+use Rattle.paths.specs.Tables.{Graph, Holds}
+use Rattle.paths.specs.Queue.{queued, Searchable, Reached, Kinds, Told, walk}
 use Rattle.search.specs.Names.{Names, nameOf, pathBack, startName, Readback}
 use Rattle.search.specs.Replies.{Askable, RepliesRight}
 

@@ -12,7 +12,7 @@ use Rattle.model.specs.declared.Kind.the-variants.{Translation}
 use Rattle.model.specs.Bytes.{Bytes}
 use Rattle.model.specs.Numbers.{number}
 use Rattle.record.specs.Test.{pairCount, tableAt}
-use Rattle.search.specs.Tables.{edges, Leaves, Made}
+use Rattle.paths.specs.Tables.{edges, Leaves, Made}
 use Rattle.search.specs.Keys.{keyAt, Rises, Among, Merged, Indexed, Leads, Built, Sorted, Roomy, Buildable, KindBuilt, TranslationsBuilt}
 
 -- the keys as they were read

@@ -25,7 +25,7 @@ use Rattle.record.specs.Test.{pairCount, tableAt}
 use Rattle.record.proofs.Names.{names-ascending}
 use Rattle.record.proofs.Laws.{decoded, decode-held}
 use Rattle.record.proofs.Access.{pairAt, record-count, record-name, record-pair, record-pairCount, pair-within}
-use Rattle.search.specs.Tables.{InOrder}
+use Rattle.paths.specs.Tables.{InOrder}
 use Rattle.search.specs.Names.{naming, nameOf}
 use Rattle.search.specs.Union.{NamesRise, Numbered, Side}
 use Rattle.search.specs.Keys.{keyAt, Sorted}

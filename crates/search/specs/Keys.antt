@@ -12,7 +12,7 @@ use Rattle.model.specs.Bytes.{Bytes}
 use Rattle.model.specs.Layout.{recordLength}
 use Rattle.record.specs.Test.{pairCount, tableAt}
 use Rattle.model.specs.Numbers.{number}
-use Rattle.search.specs.Tables.{Edges, edges, Leaves, Made}
+use Rattle.paths.specs.Tables.{Edges, edges, Leaves, Made}
 
 -- the p'th pair of places from byte `at` on, by the numbers of the places
 abbrev pub keyAt : Bytes → ℕ → List ℕ → ℕ → ℕ

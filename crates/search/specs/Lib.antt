@@ -1,5 +1,3 @@
-pub mod Tables
-pub mod Queue
 pub mod Names
 pub mod Keys
 pub mod Replies

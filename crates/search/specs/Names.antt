@@ -1,15 +1,16 @@
 -- The names of the nodes, as parts of two record buffers, and the bytes of a path read back. Assumes nothing.
 use mathlib.Core.Path.{_≡_}
-use mathlib.Core.Bool.{cond}
+use mathlib.Core.Bool.{Bool, cond}
 use mathlib.Core.List.{List, [], _∷_, _++_}
 use Prim.Native.Nat.{ℕ, _+_, _-_, _*_, _≤_, _<_}
 use lib.ListN.{length, getD}
-use lib.Dec.{eqb}
-use Rattle.model.specs.Bytes.{Bytes}
+use lib.Dec.{eqb, leb}
+use Rattle.model.specs.Bytes.{Bytes, put}
 use Rattle.model.specs.Numbers.{le16}
 use Rattle.model.specs.Layout.{recordLength, nameAt}
-use Rattle.model.specs.Path.{Step, kindNumber, pathBodies}
-use Rattle.search.specs.Queue.{walk, Back, Kinds}
+use Rattle.model.specs.Path.{Step, kindNumber, pathBodies, pathBytes}
+use Rattle.model.specs.Outcome.{found, sized, outputAfter}
+use Rattle.paths.specs.Queue.{walk, Back, Kinds}
 
 -- two records, and by node its place in each plus 1, or 0 where the record does not hold its name
 pub record Names : Type 0 where
@@ -61,3 +62,15 @@ pub record Writable (ns : Names) (nodes parents kinds : List ℕ) (j step : ℕ)
   pub few : step < 65536
   pub entries : 6 + 4 * step ≤ at
   pub bodies : at + length (pathBodies (startName ns nodes) (pathBack ns nodes parents kinds j)) ≤ length out
+
+-- the names of the path are written: the entries from byte 2 on, the last with `kind`, and the bodies from byte `at` up to r
+abbrev pub NamesWritten : Names → List ℕ → List ℕ → List ℕ → ℕ → Bytes → ℕ → ℕ → ℕ → Bytes → Type 0
+NamesWritten ns nodes parents kinds j out at kind r o =
+    (r ≡ at + length (pathBodies (startName ns nodes) (pathBack ns nodes parents kinds j)))
+    × (o ≡ put (put out 2 (entriesWith kind (startName ns nodes) (pathBack ns nodes parents kinds j))) at (pathBodies (startName ns nodes) (pathBack ns nodes parents kinds j)))
+
+-- whether there is room for the bytes of the path, and what the output then holds
+abbrev pub PathWritten : Names → List ℕ → List ℕ → List ℕ → ℕ → Bytes → Bool → Bytes → Type 0
+PathWritten ns nodes parents kinds j out r o =
+    (r ≡ leb (length (pathBytes (startName ns nodes) (pathBack ns nodes parents kinds j))) (length out))
+    × (o ≡ outputAfter (sized (length out) (found (pathBytes (startName ns nodes) (pathBack ns nodes parents kinds j)))) out)

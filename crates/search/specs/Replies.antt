@@ -8,7 +8,7 @@ use Rattle.model.specs.Path.{Relations, bestPath}
 use Rattle.model.specs.Outcome.{Answer, refusal, notFound, found, answered, sized, outputAfter}
 use Rattle.search.specs.declared.Reply.{Reply}
 use Rattle.search.specs.declared.Reply.the-variants.{Refused, No, Yes}
-use Rattle.search.specs.Tables.{Made, Graph, Holds}
+use Rattle.paths.specs.Tables.{Made, Graph, Holds}
 use Rattle.search.specs.Names.{Names, nameOf, Readable}
 
 abbrev pub replyOf : Answer → Reply

@@ -15,7 +15,7 @@ use Rattle.model.specs.Layout.{recordLength, nameAt, decode}
 use Rattle.model.specs.Path.{Relations, subgraphRelations, allRelations, bestPath}
 use Rattle.model.specs.Outcome.{Answer, answered, sized, askSubgraph, askFull}
 use Rattle.search.specs.declared.Reply.{Reply}
-use Rattle.search.specs.Tables.{InOrder}
+use Rattle.paths.specs.Tables.{InOrder}
 use Rattle.search.specs.Replies.{Replies}
 use Rattle.search.specs.Names.{Names, naming, nameOf, Readable}
 

@@ -1,6 +1,6 @@
 // The pairs of two records as tables of steps: by keys of two numbers, merged in order, and indexed by the first number.
-use crate::breadth::clear;
 use model::Kind;
+use paths::clear;
 use record::pair_count;
 use record::table_at;
 use text::read16;
@@ -8,7 +8,7 @@ ghost use mathlib.Core.Path.{_≡_};
 ghost use Prim.Native.Nat.{ℕ, _+_, _/_, _%_, _≤_, _<_};
 ghost use lib.ListN.{length, getD};
 ghost use Rattle.model.specs.declared.Kind.the-variants.{Translation};
-ghost use Rattle.search.specs.Tables.{edges, Made};
+ghost use Rattle.paths.specs.Tables.{edges, Made};
 ghost use Rattle.search.specs.Keys.{keyAt, Paired, Rises, Merged, FirstNext, Indexed, Sorted, Roomy, Built, Buildable, KindBuilt, TranslationsBuilt};
 
 // The keys of the pairs from byte `at` on, as many as there is room for, by the numbers of their places.

@@ -2,7 +2,6 @@
 //
 // The two public functions take any slices and equal the definitions `askSubgraph` and `askFull` of `model/specs/Outcome.antt`;
 // `specs/Replies.antt` says what each case of a reply means. `proofs/Demand.antt` has demand 3 of those definitions.
-mod breadth;
 mod edges;
 mod names;
 mod question;
@@ -17,10 +16,4 @@ pub enum Reply {
     Refused(u32),
     No,
     Yes,
-}
-
-// Where a search found the node that was asked for: a place in the order of finding.
-pub enum Place {
-    Found(usize),
-    NotFound,
 }

@@ -1,18 +1,18 @@
 // The path questions, from two buffers down to tables: the tests, the numbers of the names, the steps, the search and the bytes.
-use crate::Place;
 use crate::Reply;
-use crate::breadth::search;
 use crate::edges::kind_edges;
 use crate::edges::translation_edges;
 use crate::union::number_names;
 use crate::written::put_path;
 use model::Kind;
+use paths::Place;
+use paths::search;
 use record::fault_of_both;
 use text::read16;
 ghost use mathlib.Core.Path.{_≡_};
 ghost use Prim.Native.Nat.{_<_};
 ghost use lib.ListN.{length};
-ghost use Rattle.search.specs.Tables.{edges, graph};
+ghost use Rattle.paths.specs.Tables.{edges, graph};
 ghost use Rattle.search.specs.Names.{naming};
 ghost use Rattle.search.specs.Union.{Questioned, RepliesTo, Named, RepliesFrom, askOf};
 ghost use Rattle.search.specs.Replies.{Askable, RepliesRight, Replies};

@@ -6,13 +6,11 @@ ghost use mathlib.Core.Path.{_≡_};
 ghost use mathlib.Core.List.{List, _++_};
 ghost use Prim.Native.Nat.{ℕ, _+_, _*_, _≤_, _<_};
 ghost use lib.ListN.{length, getD};
-ghost use lib.Dec.{leb};
 ghost use Rattle.model.specs.Bytes.{Bytes, put};
 ghost use Rattle.model.specs.Numbers.{le16};
-ghost use Rattle.model.specs.Path.{pathBytes, pathBodies};
-ghost use Rattle.model.specs.Outcome.{found, sized, outputAfter};
-ghost use Rattle.search.specs.Queue.{walk, Kinds};
-ghost use Rattle.search.specs.Names.{naming, entriesWith, pathBack, startName, Readback, Writable};
+ghost use Rattle.model.specs.Path.{pathBodies};
+ghost use Rattle.paths.specs.Queue.{walk, Kinds};
+ghost use Rattle.search.specs.Names.{naming, pathBack, startName, Readback, Writable, NamesWritten, PathWritten};
 
 // How many steps lead from the first place to place j.
 fn count_steps(parents: &[u16], j: usize) -> usize
@@ -76,7 +74,7 @@ fn put_names<'a>(
     at: usize,
 ) -> usize
     requires { ⌜ Writable (naming (now first) (now second) (now firsts) (now seconds)) (now nodes) (now parents) (now kinds) j step (now out) at ⌝ }
-    ensures { λ r. ⌜ (r ≡ at + length (pathBodies (startName (naming (now (first .entry)) (now (second .entry)) (now (firsts .entry)) (now (seconds .entry))) (now (nodes .entry))) (pathBack (naming (now (first .entry)) (now (second .entry)) (now (firsts .entry)) (now (seconds .entry))) (now (nodes .entry)) (now (parents .entry)) (now (kinds .entry)) j))) × (now (out .exit) ≡ put (put (now (out .entry)) 2 (entriesWith kind (startName (naming (now (first .entry)) (now (second .entry)) (now (firsts .entry)) (now (seconds .entry))) (now (nodes .entry))) (pathBack (naming (now (first .entry)) (now (second .entry)) (now (firsts .entry)) (now (seconds .entry))) (now (nodes .entry)) (now (parents .entry)) (now (kinds .entry)) j))) at (pathBodies (startName (naming (now (first .entry)) (now (second .entry)) (now (firsts .entry)) (now (seconds .entry))) (now (nodes .entry))) (pathBack (naming (now (first .entry)) (now (second .entry)) (now (firsts .entry)) (now (seconds .entry))) (now (nodes .entry)) (now (parents .entry)) (now (kinds .entry)) j))) ⌝ }
+    ensures { λ r. ⌜ NamesWritten (naming (now (first .entry)) (now (second .entry)) (now (firsts .entry)) (now (seconds .entry))) (now (nodes .entry)) (now (parents .entry)) (now (kinds .entry)) j (now (out .entry)) at kind r (now (out .exit)) ⌝ }
 {
     let name = name_of(first, second, firsts, seconds, nodes[j] as usize);
     if step == 0 {
@@ -116,7 +114,7 @@ pub(crate) fn put_path<'a>(
     out: &mut [u8],
 ) -> bool
     requires { ⌜ Readback (naming (now first) (now second) (now firsts) (now seconds)) (now nodes) (now parents) j × Kinds (now kinds) j ⌝ }
-    ensures { λ r. ⌜ (r ≡ leb (length (pathBytes (startName (naming (now (first .entry)) (now (second .entry)) (now (firsts .entry)) (now (seconds .entry))) (now (nodes .entry))) (pathBack (naming (now (first .entry)) (now (second .entry)) (now (firsts .entry)) (now (seconds .entry))) (now (nodes .entry)) (now (parents .entry)) (now (kinds .entry)) j))) (length (now (out .entry)))) × (now (out .exit) ≡ outputAfter (sized (length (now (out .entry))) (found (pathBytes (startName (naming (now (first .entry)) (now (second .entry)) (now (firsts .entry)) (now (seconds .entry))) (now (nodes .entry))) (pathBack (naming (now (first .entry)) (now (second .entry)) (now (firsts .entry)) (now (seconds .entry))) (now (nodes .entry)) (now (parents .entry)) (now (kinds .entry)) j)))) (now (out .entry))) ⌝ }
+    ensures { λ r. ⌜ PathWritten (naming (now (first .entry)) (now (second .entry)) (now (firsts .entry)) (now (seconds .entry))) (now (nodes .entry)) (now (parents .entry)) (now (kinds .entry)) j (now (out .entry)) r (now (out .exit)) ⌝ }
 {
     let step = count_steps(parents, j);
     let at = 6 + 4 * step;

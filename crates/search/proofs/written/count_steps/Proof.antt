@@ -5,8 +5,8 @@ use Prim.Native.Nat.{ℕ, _+_, _≤_, _<_}
 use lib.ListN.{length, getD}
 use denote.Ref.{now}
 use Rattle.model.specs.Bytes.{Bytes}
-use Rattle.search.specs.Queue.{walk}
-use Rattle.search.proofs.Walk.{length-first, length-step}
+use Rattle.paths.specs.Queue.{walk}
+use Rattle.paths.proofs.Walk.{length-first, length-step}
 use native.Mathlib.Omega.{arith}
 use Rattle.search.proofs.written.count_steps.Statement.{statement}
 use Rattle.search.proofs.written.count_steps.Tie as tie

@@ -11,9 +11,9 @@ use Rattle.model.specs.declared.Kind.{Kind}
 use Rattle.model.specs.declared.Kind.the-variants.{Subgraph, Translation}
 use Rattle.model.specs.Bytes.{Bytes}
 use Rattle.model.specs.Path.{Step, Relations, bestPath}
-use Rattle.search.specs.declared.Place.{Place}
-use Rattle.search.specs.declared.Place.the-variants.{Found, NotFound}
-use Rattle.search.specs.Tables.{Made, Graph, Holds}
+use Rattle.paths.specs.declared.Place.{Place}
+use Rattle.paths.specs.declared.Place.the-variants.{Found, NotFound}
+use Rattle.paths.specs.Tables.{Made, Graph, Holds}
 
 pub record Queue : Type 0 where
   pub nodes : List ℕ

@@ -2,11 +2,11 @@
 use Prim.Native.Nat.{_-_, _≤_, _<_}
 use lib.ListN.{length, getD}
 use denote.Ref.{now}
-use Rattle.search.specs.Queue.{queued}
-use Rattle.search.proofs.Visit.{Visiting, visiting-start, visiting-end, visiting-room, visiting-old, visiting-new}
+use Rattle.paths.specs.Queue.{queued}
+use Rattle.paths.proofs.Visit.{Visiting, visiting-start, visiting-end, visiting-room, visiting-old, visiting-new}
 use native.Mathlib.Omega.{arith}
-use Rattle.search.proofs.breadth.expand.Statement.{statement}
-use Rattle.search.proofs.breadth.expand.Tie as tie
+use Rattle.paths.proofs.breadth.expand.Statement.{statement}
+use Rattle.paths.proofs.breadth.expand.Tie as tie
 
 abbrev Inv-loop : tie.InvT-loop
 Inv-loop starts ends targets kind h nodes₀ parents₀ kinds₀ places₀ n v end e₀ count₀ nodes parents kinds places e count =

@@ -13,9 +13,9 @@ use Rattle.model.specs.Record.{comparePairs}
 use Rattle.model.specs.Path.{Step, Relations, leaving, firstOf, firstPath, pathFrom}
 use Rattle.model.specs.Statements.{Ascending, Relation, IsPath, Before}
 use Rattle.text.proofs.Order.{sameBytes-true}
-use Rattle.search.proofs.PathOrder.{NotLater}
-use Rattle.search.specs.Tables.{related}
-use Rattle.search.proofs.Leaving.{Rising, leaving-members, leaving-rising}
+use Rattle.paths.proofs.PathOrder.{NotLater}
+use Rattle.paths.specs.Tables.{related}
+use Rattle.paths.proofs.Leaving.{Rising, leaving-members, leaving-rising}
 
 -- ss is the first path of k steps from a to b
 pub record FirstPath (R : Relation) (k : ℕ) (a b : Bytes) (ss : List Step) : Type 0 where

@@ -11,12 +11,12 @@ use Rattle.model.specs.declared.Kind.{Kind}
 use Rattle.model.specs.declared.Kind.the-variants.{Subgraph, Translation}
 use Rattle.model.specs.Bytes.{Bytes}
 use Rattle.model.specs.Path.{Relations, kindNumber}
-use Rattle.search.specs.Tables.{Leaves, Made, Graph, edgesOf, target, Holds}
-use Rattle.search.specs.Queue.{Queue, queued, visit, zeros, Room, kindOf}
-use Rattle.search.proofs.Visit.{zeros-set, zeros-all, pushed, visit-new, visit-old}
-use Rattle.search.proofs.Tree.{Progress, stepAt, More, Tree, below, tree-start, tree-move, tree-agree, tree-skip, tree-push}
-use Rattle.search.proofs.Progress.{upTo, one-more}
-use Rattle.search.proofs.Walk.{pathTo, walk-first, walk-step, walk-agree}
+use Rattle.paths.specs.Tables.{Leaves, Made, Graph, edgesOf, target, Holds}
+use Rattle.paths.specs.Queue.{Queue, queued, visit, zeros, Room, kindOf}
+use Rattle.paths.proofs.Visit.{zeros-set, zeros-all, pushed, visit-new, visit-old}
+use Rattle.paths.proofs.Tree.{Progress, stepAt, More, Tree, below, tree-start, tree-move, tree-agree, tree-skip, tree-push}
+use Rattle.paths.proofs.Progress.{upTo, one-more}
+use Rattle.paths.proofs.Walk.{pathTo, walk-first, walk-step, walk-agree}
 
 abbrev pub nodeAt : Queue → ℕ → ℕ
 nodeAt q j = getD (q .nodes) j 0

@@ -11,8 +11,8 @@ use Rattle.model.specs.declared.Kind.{Kind}
 use Rattle.model.specs.Bytes.{Bytes}
 use Rattle.model.specs.Path.{Step, Relations}
 use Rattle.model.specs.Statements.{IsPath, StepBefore}
-use Rattle.search.specs.Tables.{related, Leaves, Graph, edgesOf, target, Holds}
-use Rattle.search.proofs.PathOrder.{Earlier, NotLater, earlier-snoc, earlier-last, path-snoc}
+use Rattle.paths.specs.Tables.{related, Leaves, Graph, edgesOf, target, Holds}
+use Rattle.paths.proofs.PathOrder.{Earlier, NotLater, earlier-snoc, earlier-last, path-snoc}
 
 pub below : (j n : ℕ) → j < n + 1 → (j < n) ⊎ (j ≡ n)
 below j n l = ⊎-elim inr inl (eq-or-lt-of-le (omega arith))

@@ -6,7 +6,7 @@ use native.Mathlib.Omega.{arith}
 use lib.ListN.{length, getD, length-append}
 use Rattle.model.specs.Bytes.{Bytes}
 use Rattle.model.specs.Path.{Step}
-use Rattle.search.specs.Queue.{Queue, kindOf, walk}
+use Rattle.paths.specs.Queue.{Queue, kindOf, walk}
 
 abbrev pub pathTo : (ℕ → Bytes) → Queue → ℕ → List Step
 pathTo name q j = walk name (q .nodes) (q .parents) (q .kinds) j j

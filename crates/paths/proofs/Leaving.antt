@@ -10,9 +10,9 @@ use Rattle.model.specs.Bytes.{Bytes, compareBytes, sameBytes}
 use Rattle.model.specs.Record.{Pair, comparePairs}
 use Rattle.model.specs.Path.{Step, Relations, leavingBy, leaving}
 use Rattle.model.specs.Statements.{Ascending, StepBefore}
-use Rattle.search.specs.Tables.{pairOf, related}
+use Rattle.paths.specs.Tables.{pairOf, related}
 use Rattle.text.proofs.Order.{bytes-order, pairs-order, sameBytes-true}
-use Rattle.search.proofs.PathOrder.{same-kind}
+use Rattle.paths.proofs.PathOrder.{same-kind}
 use Rattle.text.proofs.Ascending.{ascending-tail, ascending-below}
 
 -- every step before all later ones

@@ -3,13 +3,13 @@ use mathlib.Core.Path.{_≡_, sym, ap, _∙_}
 use Prim.Native.Nat.{ℕ, _-_, _<_}
 use lib.ListN.{length, set, length-set}
 use denote.Ref.{now}
-use Rattle.search.specs.Tables.{Graph, edges, graph, nexts, Made}
-use Rattle.search.specs.Queue.{Queue, queued, visitAll, Room, Ready}
-use Rattle.search.proofs.State.{nodeAt}
-use Rattle.search.proofs.Turn.{Searching, searching-start, ready, ready-half, size-half, searching-turn, told-found, told-none}
+use Rattle.paths.specs.Tables.{Graph, edges, graph, nexts, Made}
+use Rattle.paths.specs.Queue.{Queue, queued, visitAll, Room, Ready}
+use Rattle.paths.proofs.State.{nodeAt}
+use Rattle.paths.proofs.Turn.{Searching, searching-start, ready, ready-half, size-half, searching-turn, told-found, told-none}
 use native.Mathlib.Omega.{arith}
-use Rattle.search.proofs.breadth.search.Statement.{statement}
-use Rattle.search.proofs.breadth.search.Tie as tie
+use Rattle.paths.proofs.breadth.search.Statement.{statement}
+use Rattle.paths.proofs.breadth.search.Tie as tie
 
 abbrev Inv-loop : tie.InvT-loop
 Inv-loop sub-starts sub-ends sub-targets trans-starts trans-ends trans-targets a b nodes₀ parents₀ kinds₀ places₀ n₀ h₀ nodes parents kinds places n h =

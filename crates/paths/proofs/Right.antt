@@ -13,10 +13,10 @@ use Rattle.model.specs.Bytes.{Bytes}
 use Rattle.model.specs.Record.{Pair, comparePairs}
 use Rattle.model.specs.Path.{Step, Relations, pathFrom, bestPath}
 use Rattle.model.specs.Statements.{Ascending, Relation, IsPath, Best, Reachable}
-use Rattle.search.proofs.PathOrder.{best-unique}
-use Rattle.search.specs.Tables.{related}
-use Rattle.search.proofs.First.{Among, pathFrom-right}
-use Rattle.search.proofs.Short.{short-path}
+use Rattle.paths.proofs.PathOrder.{best-unique}
+use Rattle.paths.specs.Tables.{related}
+use Rattle.paths.proofs.First.{Among, pathFrom-right}
+use Rattle.paths.proofs.Short.{short-path}
 
 -- no path, or the best one
 abbrev pub RightPath : Relation → Bytes → Bytes → Option (List Step) → Type 0

@@ -8,7 +8,7 @@ use native.Mathlib.Omega.{arith}
 use lib.ListN.{length, getD, set, take, length-set, length-take, drop-of-length-le}
 use lib.Seq.{slice, slice-cons}
 use borrow.Author.Tests.{eq-eqb, ne-eqb}
-use Rattle.search.specs.Queue.{Queue, queued, visit, visitAll, zeros, Room, Ready}
+use Rattle.paths.specs.Queue.{Queue, queued, visit, visitAll, zeros, Room, Ready}
 
 -- ------------------------------------------------------------------ nodes that are not found
 

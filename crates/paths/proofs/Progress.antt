@@ -11,9 +11,9 @@ use Rattle.model.specs.declared.Kind.the-variants.{Subgraph, Translation}
 use Rattle.model.specs.Bytes.{Bytes}
 use Rattle.model.specs.Path.{Relations}
 use Rattle.model.specs.Statements.{KindBefore, StepBefore}
-use Rattle.search.specs.Tables.{Leaves, Made, Graph, edgesOf, target, Holds}
-use Rattle.search.proofs.PathOrder.{same-kind}
-use Rattle.search.proofs.Tree.{Progress, stepAt, More, below}
+use Rattle.paths.specs.Tables.{Leaves, Made, Graph, edgesOf, target, Holds}
+use Rattle.paths.proofs.PathOrder.{same-kind}
+use Rattle.paths.proofs.Tree.{Progress, stepAt, More, below}
 
 abbrev pub upTo : ℕ → Kind → ℕ → Progress
 upTo h K E p k e = (p < h) ⊎ ((p ≡ h) × KindBefore k K (e < E))

@@ -13,15 +13,15 @@ use Rattle.model.specs.declared.Kind.{Kind}
 use Rattle.model.specs.declared.Kind.the-variants.{Subgraph, Translation}
 use Rattle.model.specs.Bytes.{Bytes}
 use Rattle.model.specs.Path.{Relations, kindNumber, bestPath}
-use Rattle.search.specs.declared.Place.the-variants.{Found, NotFound}
-use Rattle.search.specs.Tables.{related, nexts, Made, Graph, edgesOf, target, Holds}
-use Rattle.search.specs.Queue.{Queue, queued, visit, visitAll, Room, Ready, Told}
-use Rattle.search.proofs.Right.{RightPath, right-unique, bestPath-right}
-use Rattle.search.proofs.Visit.{visit-new, visit-old, slice-none}
-use Rattle.search.proofs.Shortest.{tree-best, tree-none}
-use Rattle.search.proofs.Tree.{Progress, below}
-use Rattle.search.proofs.Progress.{upTo, row-starts, row-opens, to-translations, from-subgraphs, to-next, from-last}
-use Rattle.search.proofs.State.{nodeAt, placeOf, State, first, state-start, state-move, state-visit}
+use Rattle.paths.specs.declared.Place.the-variants.{Found, NotFound}
+use Rattle.paths.specs.Tables.{related, nexts, Made, Graph, edgesOf, target, Holds}
+use Rattle.paths.specs.Queue.{Queue, queued, visit, visitAll, Room, Ready, Told}
+use Rattle.paths.proofs.Right.{RightPath, right-unique, bestPath-right}
+use Rattle.paths.proofs.Visit.{visit-new, visit-old, slice-none}
+use Rattle.paths.proofs.Shortest.{tree-best, tree-none}
+use Rattle.paths.proofs.Tree.{Progress, below}
+use Rattle.paths.proofs.Progress.{upTo, row-starts, row-opens, to-translations, from-subgraphs, to-next, from-last}
+use Rattle.paths.proofs.State.{nodeAt, placeOf, State, first, state-start, state-move, state-visit}
 
 -- ------------------------------------------------------------------ what a visit keeps
 

@@ -3,11 +3,11 @@ use crate::Place;
 ghost use mathlib.Core.Path.{_≡_};
 ghost use Prim.Native.Nat.{ℕ, _<_};
 ghost use lib.ListN.{length, getD};
-ghost use Rattle.search.specs.Tables.{edges, graph, nexts, Made};
-ghost use Rattle.search.specs.Queue.{queued, visitAll, Ready, Searchable, Told};
+ghost use Rattle.paths.specs.Tables.{edges, graph, nexts, Made};
+ghost use Rattle.paths.specs.Queue.{queued, visitAll, Ready, Searchable, Told};
 
 // No node is found: every number of a table is 0.
-pub(crate) fn clear(places: &mut [u16])
+pub fn clear(places: &mut [u16])
     ensures { λ _. ⌜ ((v : ℕ) → v < length (now (places .exit)) → getD (now (places .exit)) v 0 ≡ 0) ⌝ }
 {
     let mut v = 0;
@@ -56,7 +56,7 @@ fn expand(
 }
 
 // Searches from node a for node b: the tables then have the first of the paths with fewest steps.
-pub(crate) fn search(
+pub fn search(
     sub_starts: &[u16],
     sub_ends: &[u16],
     sub_targets: &[u16],

@@ -15,9 +15,9 @@ use Rattle.model.specs.Path.{Step, Relations}
 use Rattle.model.specs.Statements.{IsPath, Best}
 use Rattle.text.proofs.Order.{bytes-order}
 use Rattle.text.proofs.Ascending.{less-irrefl}
-use Rattle.search.specs.Tables.{related, InOrder, Leaves, Graph, edgesOf, target, Holds}
-use Rattle.search.proofs.PathOrder.{NotLater, not-later-trans, not-later-snoc}
-use Rattle.search.proofs.Tree.{Progress, stepAt, Met, Tree}
+use Rattle.paths.specs.Tables.{related, InOrder, Leaves, Graph, edgesOf, target, Holds}
+use Rattle.paths.proofs.PathOrder.{NotLater, not-later-trans, not-later-snoc}
+use Rattle.paths.proofs.Tree.{Progress, stepAt, Met, Tree}
 
 not-later-append : (ss ts us : List Step) → NotLater ss ts → NotLater ss (ts ++ us)
 not-later-append ss ts [] h = rw append-nil h

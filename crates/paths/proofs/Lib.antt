@@ -1,0 +1,12 @@
+pub mod PathOrder
+pub mod Leaving
+pub mod First
+pub mod Short
+pub mod Right
+pub mod Visit
+pub mod Tree
+pub mod Shortest
+pub mod Progress
+pub mod Walk
+pub mod State
+pub mod Turn
