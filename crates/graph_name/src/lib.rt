@@ -3,13 +3,13 @@
 // The result is document 01's number, 0 for done. A number behind a `&mut u64` is written on 0 only. Each promise is an equation with a
 // definition of `model/specs`, on the arguments alone.
 mod lines;
-mod paths;
+mod questions;
 mod records;
 mod texts;
 
 pub use lines::graph_name_check_strict;
-pub use paths::graph_name_is_subgraph_of;
-pub use paths::graph_name_translates_to;
+pub use questions::graph_name_is_subgraph_of;
+pub use questions::graph_name_translates_to;
 pub use records::graph_name_counts;
 pub use records::graph_name_is_same;
 pub use records::graph_name_name;

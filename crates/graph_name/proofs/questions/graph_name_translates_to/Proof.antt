@@ -1,12 +1,10 @@
 -- The reply, handed out.
+use lib.ListN.{length}
+use Rattle.model.specs.Outcome.{askFull}
 use Rattle.graph_name.proofs.Asked.{reply-number, reply-value}
 use borrow.Author.Needs.{needs}
-use Rattle.graph_name.proofs.paths.graph_name_translates_to.Statement.{statement}
-use Rattle.graph_name.proofs.paths.graph_name_translates_to.Tie as tie
-use Rattle.graph_name.proofs.paths.graph_name_translates_to.Reads as reads
-use Rattle.graph_name.proofs.paths.graph_name_translates_to.Lts as lts
-use Rattle.graph_name.proofs.paths.reply_out.Reads as reply-out-reads
-use Rattle.search.proofs.translates_to.Reads as translates-to-reads
+use Rattle.graph_name.proofs.questions.graph_name_translates_to.Statement.{statement}
+use Rattle.graph_name.proofs.questions.graph_name_translates_to.Tie as tie
 
 translates-to-requires : tie.Need-translates-to-requires
 translates-to-requires c κs = search needs
@@ -21,7 +19,9 @@ returns : tie.Need-returns
 returns c =
     let w = c .before .before .before .before .translates-to .ensures in
     let s = c .reply-out .ensures in
-    (reply-number _ _ (w .0) _ (s .0), (w .1, reply-value _ _ (w .0) _ _ (s .1)))
+    let a = c .before .before .before .before .before .before .before .before .before .args in
+    let answer = askFull (a .buf .now) (a .other .now) (length (a .out .now)) in
+    (reply-number answer _ (w .0) _ (s .0), (w .1, reply-value answer _ (w .0) _ _ (s .1)))
 
 pub graph-name-translates-to-spec : {M : Type 1} → statement M
 graph-name-translates-to-spec =
