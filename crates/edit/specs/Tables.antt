@@ -1,0 +1,94 @@
+-- The working tables, and the graph name that they show. Names are numbers, start * 65536 + length, of bodies in a pool; pairs are
+-- numbers, first place * 65536 + second place. Assumes nothing.
+use mathlib.Core.Path.{_≡_}
+use mathlib.Core.Bool.{false}
+use mathlib.Core.List.{List, map, List·Memᴰ}
+use Prim.Native.Nat.{ℕ, _+_, _/_, _%_, _≤_, _<_}
+use lib.ListN.{length, take, drop}
+use Rattle.model.specs.Bytes.{Bytes, compareNumbers, compareBytes}
+use Rattle.model.specs.Record.{GraphName, names, anyLong, bodies}
+use Rattle.model.specs.Statements.{Ascending}
+use Rattle.record.specs.Test.{Under}
+use Rattle.record.specs.Coded.{Coded, meaning}
+use Rattle.edit.specs.declared.tables.Sizes.{Sizes}
+
+-- the tables, of which as much is in use as the sizes say
+pub record Tables : Type 0 where
+  pub refs : List ℕ
+  pub subs : List ℕ
+  pub trans : List ℕ
+  pub pool : Bytes
+  pub sizes : Sizes
+
+abbrev pub tables : List ℕ → List ℕ → List ℕ → Bytes → Sizes → Tables
+tables refs subs trans pool sizes = record { refs = refs; subs = subs; trans = trans; pool = pool; sizes = sizes }
+
+-- the body that a number stands for
+abbrev pub bodyIn : Bytes → ℕ → Bytes
+bodyIn pool r = take (r % 65536) (drop (r / 65536) pool)
+
+-- the places that a number stands for
+abbrev pub placesOf : ℕ → ℕ × ℕ
+placesOf x = (x / 65536, x % 65536)
+
+-- the names of the first n numbers of a table, and the pairs
+abbrev pub namesIn : Bytes → ℕ → List ℕ → List Bytes
+namesIn pool n refs = map (bodyIn pool) (take n refs)
+
+abbrev pub pairsIn : ℕ → List ℕ → List (ℕ × ℕ)
+pairsIn n xs = map placesOf (take n xs)
+
+abbrev pub tableNames : Tables → List Bytes
+tableNames t = namesIn (t .pool) (t .sizes .names) (t .refs)
+
+-- what the tables hold: no own name
+abbrev pub readOut : Tables → Coded
+readOut t = record {
+  names = tableNames t;
+  own = 0;
+  subgraph = pairsIn (t .sizes .subgraph) (t .subs);
+  translation = pairsIn (t .sizes .translation) (t .trans);
+}
+
+-- the graph name shown
+abbrev pub graphIn : Tables → GraphName
+graphIn t = meaning (readOut t)
+
+-- the first k numbers of a table are pairs of places below n, and ascend
+pub record KeptPairs (n k : ℕ) (xs : List ℕ) : Type 0 where
+  pub order : Ascending compareNumbers (take k xs)
+  pub under : Under n (pairsIn k xs)
+  pub within : k ≤ length xs
+
+-- the names ascend and are short, the pairs are of places of theirs and ascend, and all is within the tables
+pub record Kept (t : Tables) : Type 0 where
+  pub order : Ascending compareBytes (tableNames t)
+  pub short : anyLong (tableNames t) ≡ false
+  pub within : (r : ℕ) → List·Memᴰ r (take (t .sizes .names) (t .refs)) → r / 65536 + r % 65536 ≤ t .sizes .bytes
+  pub total : t .sizes .bytes ≡ length (bodies (tableNames t))
+  pub count : t .sizes .names ≤ length (t .refs)
+  pub room : t .sizes .bytes ≤ length (t .pool)
+  pub few : length (t .refs) < 65536
+  pub small : length (t .pool) < 65536
+  pub subgraph : KeptPairs (t .sizes .names) (t .sizes .subgraph) (t .subs)
+  pub translation : KeptPairs (t .sizes .names) (t .sizes .translation) (t .trans)
+
+-- and every name is used
+pub record Good (t : Tables) : Type 0 where
+  pub kept : Kept t
+  pub used : names (graphIn t) ≡ tableNames t
+
+-- there is room for a name, which is short
+pub record NameRoom (t : Tables) (name : Bytes) : Type 0 where
+  pub short : length name ≤ 256
+  pub count : t .sizes .names < length (t .refs)
+  pub room : t .sizes .bytes + length name ≤ length (t .pool)
+
+-- there is room for a pair of either kind with its two names, which are short
+pub record PairRoom (t : Tables) (from to : Bytes) : Type 0 where
+  pub from-short : length from ≤ 256
+  pub to-short : length to ≤ 256
+  pub count : t .sizes .names + 1 < length (t .refs)
+  pub room : t .sizes .bytes + length from + length to ≤ length (t .pool)
+  pub subgraph : t .sizes .subgraph < length (t .subs)
+  pub translation : t .sizes .translation < length (t .trans)

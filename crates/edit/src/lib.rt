@@ -1,0 +1,8 @@
+// Making and changing records: the working tables that reading, adding and merging share, and the operations on record buffers.
+mod sorted;
+mod tables;
+
+pub use tables::Sizes;
+pub use tables::name_table;
+pub use tables::pair_table;
+pub use tables::pool;
