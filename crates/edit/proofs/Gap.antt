@@ -1,10 +1,10 @@
 -- Moving the numbers of a list from a place on up by one, from the last down, and storing into the gap.
-use mathlib.Core.Path.{_≡_, sym}
-use mathlib.Core.List.{List, _∷_, _++_, append-assoc, append-nil}
+use mathlib.Core.Path.{_≡_}
+use mathlib.Core.List.{List, _++_, append-assoc, append-nil}
 use Prim.Native.Nat.{ℕ, suc, _+_, _-_, _≤_, _<_}
 use native.Mathlib.Omega.{arith}
 use native.Mathlib.Numerals.{add-one}
-use lib.ListN.{length, take, drop, set, getD, length-append, length-drop, take-append-drop, List·getD-append}
+use lib.ListN.{length, take, drop, set, getD, length-append, take-append-drop, List·getD-append}
 use lib.Seq.{length-take-le, slice, slice-empty, slice-cons, take-suc, set-at, getD-take, take-take}
 use Rattle.edit.specs.Sorted.{spliced}
 

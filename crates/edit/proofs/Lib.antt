@@ -4,3 +4,7 @@ pub mod Splice
 pub mod Renumber
 pub mod Front
 pub mod Search
+pub mod Bodies
+pub mod Pairs
+pub mod PutName
+pub mod PutPair

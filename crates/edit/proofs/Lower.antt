@@ -1,5 +1,5 @@
 -- How many elements of an ascending list are less than one: what a binary search narrows down, and where that one is put in.
-use mathlib.Core.Path.{_≡_, refl, sym, ap, _∙_}
+use mathlib.Core.Path.{_≡_, refl, sym, ap}
 use mathlib.Core.Bool.{Bool, true, false}
 use mathlib.Core.List.{List, [], _∷_, _++_, Memᴰ·cast}
 use Prim.Native.Nat.{ℕ, zero, suc, _≤_, _<_}
@@ -12,7 +12,7 @@ use Rattle.model.specs.declared.Order.the-variants.{Less, Equal, Greater}
 use Rattle.model.specs.Bytes.{byOrder}
 use Rattle.model.specs.Record.{insert}
 use Rattle.model.specs.Statements.{Ascending}
-use Rattle.text.proofs.Order.{StrictOrder, opposite}
+use Rattle.text.proofs.Order.{StrictOrder}
 use Rattle.text.proofs.Ascending.{ascending-tail, ascending-below, insert-present}
 use Rattle.text.proofs.Places.{getD-member, ascending-getD}
 use Rattle.edit.specs.Sorted.{lower, spliced}

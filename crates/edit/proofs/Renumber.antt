@@ -1,10 +1,10 @@
 -- Places after a name came in: each goes up by one from that name's place on, so that it still is the place of the same name, and the
 -- order of the pairs stays.
-use mathlib.Core.Path.{_≡_, refl, sym, ap, ap₂, _∙_}
+use mathlib.Core.Path.{_≡_, refl, ap, ap₂, _∙_}
 use mathlib.Core.Logic.{_⊎_, inl, inr, ⊎-elim}
 use mathlib.Core.Bool.{Bool, true, false, cond}
 use mathlib.Core.List.{List, [], _∷_, map, List·Memᴰ, List·Memᴰ·not-nil, List·Memᴰ·cases-cons}
-use Prim.Native.Nat.{ℕ, suc, _+_, _*_, _/_, _%_, _≤_, _<_}
+use Prim.Native.Nat.{ℕ, _+_, _*_, _/_, _%_, _≤_, _<_}
 use native.Mathlib.Omega.{arith}
 use native.Mathlib.Numerals.{add-one}
 use native.Mathlib.Nat.{add-zero}
@@ -133,7 +133,7 @@ renumbered-under p n (x ∷ xs) h u =
     )
 
 -- the name at the new place is the name that stood at the old one
-name-up : (a : Bytes) (p : ℕ) (ns : List Bytes) (q : ℕ) → p ≤ length ns → nameIn (spliced p a ns) (up p q) ≡ nameIn ns q
+pub name-up : (a : Bytes) (p : ℕ) (ns : List Bytes) (q : ℕ) → p ≤ length ns → nameIn (spliced p a ns) (up p q) ≡ nameIn ns q
 name-up a p ns q h =
     ⊎-elim
     (λ (c : (p ≤ q) × (above p q ≡ 1)). rw (c .1, add-one q) (getD-behind a [] p ns q h (c .0)))

@@ -1,10 +1,10 @@
 -- Ascending lists by place: where an element stands or would stand, and putting one in there. And places after a name came in.
 -- Assumes nothing.
-use mathlib.Core.Bool.{Bool, true, false, cond}
-use mathlib.Core.List.{List, [], _∷_, _++_, map}
+use mathlib.Core.Bool.{cond}
+use mathlib.Core.List.{List, [], _∷_, _++_}
 use Prim.Native.Nat.{ℕ, suc, _+_, _*_, _/_, _%_}
-use lib.ListN.{length, take, drop}
-use lib.Dec.{leb}
+use lib.ListN.{take, drop}
+use lib.Dec.{leb, eqb}
 use Rattle.model.specs.declared.Order.{Order}
 use Rattle.model.specs.Bytes.{byOrder}
 
@@ -24,3 +24,7 @@ above p q = cond (leb p q) 1 0
 -- the places of a pair, as one number, after a name came in at place p
 unfoldable pub renumbered : ℕ → ℕ → ℕ
 renumbered p x = x + 65536 * above p (x / 65536) + above p (x % 65536)
+
+-- a place after a name came in at place p, if that made the names more
+abbrev pub placeAfter : ℕ → ℕ → ℕ → ℕ → ℕ
+placeAfter before now p x = cond (eqb before now) x (x + above p x)

@@ -1,16 +1,19 @@
 -- The working tables, and the graph name that they show. Names are numbers, start * 65536 + length, of bodies in a pool; pairs are
 -- numbers, first place * 65536 + second place. Assumes nothing.
 use mathlib.Core.Path.{_≡_}
-use mathlib.Core.Bool.{false}
+use mathlib.Core.Bool.{Bool, false, cond}
 use mathlib.Core.List.{List, map, List·Memᴰ}
 use Prim.Native.Nat.{ℕ, _+_, _/_, _%_, _≤_, _<_}
 use lib.ListN.{length, take, drop}
-use Rattle.model.specs.Bytes.{Bytes, compareNumbers, compareBytes}
-use Rattle.model.specs.Record.{GraphName, names, anyLong, bodies}
+use lib.Dec.{ltb}
+use Rattle.model.specs.Bytes.{Bytes, compareNumbers, compareBytes, sameBytes}
+use Rattle.model.specs.Record.{GraphName, insert, withPair, names, anyLong, bodies}
+use Rattle.model.specs.declared.Kind.{Kind}
 use Rattle.model.specs.Statements.{Ascending}
 use Rattle.record.specs.Test.{Under}
-use Rattle.record.specs.Coded.{Coded, meaning}
+use Rattle.record.specs.Coded.{Coded, nameIn, meaning}
 use Rattle.edit.specs.declared.tables.Sizes.{Sizes}
+use Rattle.edit.specs.Sorted.{lower}
 
 -- the tables, of which as much is in use as the sizes say
 pub record Tables : Type 0 where
@@ -37,6 +40,10 @@ namesIn pool n refs = map (bodyIn pool) (take n refs)
 
 abbrev pub pairsIn : ℕ → List ℕ → List (ℕ × ℕ)
 pairsIn n xs = map placesOf (take n xs)
+
+-- the name at place p is `name`
+abbrev pub holdsAt : List Bytes → ℕ → Bytes → Bool
+holdsAt ns p name = cond (ltb p (length ns)) (sameBytes (nameIn ns p) name) false
 
 abbrev pub tableNames : Tables → List Bytes
 tableNames t = namesIn (t .pool) (t .sizes .names) (t .refs)
@@ -92,3 +99,21 @@ pub record PairRoom (t : Tables) (from to : Bytes) : Type 0 where
   pub room : t .sizes .bytes + length from + length to ≤ length (t .pool)
   pub subgraph : t .sizes .subgraph < length (t .subs)
   pub translation : t .sizes .translation < length (t .trans)
+
+-- ------------------------------------------------------------------ what is put in
+
+-- u are the tables t with a name put in, which stood or now stands at a place; the graph name shown is the same
+pub record NamePut (t : Tables) (name : Bytes) (u : Tables) (at : ℕ) : Type 0 where
+  pub kept : Kept u
+  pub names : tableNames u ≡ insert compareBytes name (tableNames t)
+  pub graph : graphIn u ≡ graphIn t
+  pub place : at ≡ lower compareBytes name (tableNames t)
+  pub count : u .sizes .names ≤ t .sizes .names + 1
+  pub bytes : u .sizes .bytes ≤ t .sizes .bytes + length name
+  pub subgraph : u .sizes .subgraph ≡ t .sizes .subgraph
+  pub translation : u .sizes .translation ≡ t .sizes .translation
+
+-- u are the tables t with a pair put in
+pub record PairPut (kind : Kind) (t : Tables) (from to : Bytes) (u : Tables) : Type 0 where
+  pub good : Good u
+  pub graph : graphIn u ≡ withPair kind (record { from = from; to = to }) (graphIn t)

@@ -2,7 +2,10 @@
 mod sorted;
 mod tables;
 
+pub use tables::Placed;
 pub use tables::Sizes;
 pub use tables::name_table;
 pub use tables::pair_table;
 pub use tables::pool;
+pub use tables::put_name;
+pub use tables::put_pair;

@@ -4,6 +4,7 @@ ghost use mathlib.Core.List.{_++_, map};
 ghost use Prim.Native.Nat.{_+_, _≤_, _<_};
 ghost use lib.ListN.{length, take, drop};
 ghost use Rattle.model.specs.Bytes.{compareNumbers};
+ghost use Rattle.model.specs.Record.{insert};
 ghost use Rattle.model.specs.Statements.{Ascending};
 ghost use Rattle.record.specs.Test.{Under};
 ghost use Rattle.edit.specs.Sorted.{lower, spliced, above, renumbered};
@@ -42,7 +43,7 @@ pub(crate) fn renumber(a: &mut [u32], n: usize, p: u32)
 }
 
 // How many of the first n, which ascend, are less than v.
-pub(crate) fn place(a: &[u32], n: usize, v: u32) -> usize
+fn place(a: &[u32], n: usize, v: u32) -> usize
     requires { ⌜ (n ≤ length (now a)) × Ascending compareNumbers (take n (now a)) ⌝ }
     ensures { λ r. ⌜ (r ≡ lower compareNumbers v (take n (now (a .entry)))) × (r ≤ n) ⌝ }
 {
@@ -57,4 +58,17 @@ pub(crate) fn place(a: &[u32], n: usize, v: u32) -> usize
         }
     }
     lo
+}
+
+// Puts a number into the first n, which ascend, unless it is there, and gives how many there are then.
+pub(crate) fn put_number(a: &mut [u32], n: usize, v: u32) -> usize
+    requires { ⌜ (n < length (now a)) × Ascending compareNumbers (take n (now a)) ⌝ }
+    ensures { λ r. ⌜ (r ≤ n + 1) × (take r (now (a .exit)) ≡ insert compareNumbers v (take n (now (a .entry)))) ⌝ }
+{
+    let p = place(a, n, v);
+    if p < n && a[p] == v {
+        return n;
+    }
+    insert_at(a, n, p, v);
+    n + 1
 }

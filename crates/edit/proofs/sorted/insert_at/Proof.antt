@@ -1,14 +1,12 @@
 -- The numbers from i on stand one place further; those before it stand where they stood.
-use mathlib.Core.Path.{_≡_, refl, sym, ap, _∙_}
-use Prim.Native.Nat.{ℕ, _+_, _-_, _*_, _/_, _%_, _≤_, _<_}
+use mathlib.Core.Path.{_≡_, refl, sym}
+use Prim.Native.Nat.{_≤_}
 use lib.ListN.{length, length-set}
 use Rattle.edit.proofs.Gap.{moved, moved-start, moved-turn, moved-store}
 use borrow.Author.Needs.{needs}
 use native.Mathlib.Omega.{arith}
 use Rattle.edit.proofs.sorted.insert_at.Statement.{statement}
 use Rattle.edit.proofs.sorted.insert_at.Tie as tie
-use Rattle.edit.proofs.sorted.insert_at.Reads as reads
-use Rattle.edit.proofs.sorted.insert_at.Lts as lts
 
 abbrev Inv-loop : tie.InvT-loop
 Inv-loop a₀ n p v i₀ a i = (p ≤ i) × (i ≤ n) × (length a ≡ length a₀) × (a ≡ moved a₀ n i)

@@ -1,7 +1,6 @@
 -- The place lies between the two bounds.
-use mathlib.Core.Path.{_≡_, refl, sym, ap, _∙_}
-use Prim.Native.Nat.{ℕ, _+_, _-_, _*_, _/_, _%_, _≤_, _<_}
-use lib.ListN.{length, take}
+use Prim.Native.Nat.{_+_, _-_, _/_, _≤_}
+use lib.ListN.{take}
 use Rattle.model.specs.Bytes.{compareNumbers}
 use Rattle.edit.specs.Sorted.{lower}
 use Rattle.edit.proofs.Lower.{lower-le}
@@ -11,8 +10,6 @@ use borrow.Author.Needs.{needs}
 use native.Mathlib.Omega.{arith}
 use Rattle.edit.proofs.sorted.place.Statement.{statement}
 use Rattle.edit.proofs.sorted.place.Tie as tie
-use Rattle.edit.proofs.sorted.place.Reads as reads
-use Rattle.edit.proofs.sorted.place.Lts as lts
 
 abbrev Inv-loop : tie.InvT-loop
 Inv-loop a n v lo₀ hi₀ lo hi = (lo ≤ hi) × (hi ≤ n) × (lo ≤ lower compareNumbers v (take n a)) × (lower compareNumbers v (take n a) ≤ hi)

@@ -1,6 +1,6 @@
 -- The first i pairs are renumbered, and the others are as they were.
-use mathlib.Core.Path.{_≡_, refl, sym, ap, _∙_}
-use Prim.Native.Nat.{ℕ, _+_, _-_, _*_, _/_, _%_, _≤_, _<_}
+use mathlib.Core.Path.{_≡_, refl, _∙_}
+use Prim.Native.Nat.{_-_, _≤_}
 use lib.ListN.{length, getD, length-set}
 use Rattle.edit.specs.Sorted.{renumbered}
 use Rattle.edit.proofs.Renumber.{Small, small-at}
@@ -9,9 +9,6 @@ use borrow.Author.Needs.{needs}
 use native.Mathlib.Omega.{arith}
 use Rattle.edit.proofs.sorted.renumber.Statement.{statement}
 use Rattle.edit.proofs.sorted.renumber.Tie as tie
-use Rattle.edit.proofs.sorted.renumber.Reads as reads
-use Rattle.edit.proofs.sorted.renumber.Lts as lts
-use Rattle.edit.proofs.sorted.step.Reads as step-reads
 
 abbrev Inv-loop : tie.InvT-loop
 Inv-loop a₀ n p i₀ a i = (i ≤ n) × (length a ≡ length a₀) × (a ≡ front (renumbered p) 0 i a₀)

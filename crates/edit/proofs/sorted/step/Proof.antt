@@ -1,11 +1,8 @@
 -- A test of the two numbers.
-use mathlib.Core.Path.{_≡_, refl, sym, ap, _∙_}
 use borrow.Author.Tests.{le-leb, lt-leb}
 use borrow.Author.Needs.{needs}
 use Rattle.edit.proofs.sorted.step.Statement.{statement}
 use Rattle.edit.proofs.sorted.step.Tie as tie
-use Rattle.edit.proofs.sorted.step.Reads as reads
-use Rattle.edit.proofs.sorted.step.Lts as lts
 
 returns : tie.Need-returns
 returns c = (simp (le-leb _ _ (c .if1 .taken)), search needs)

@@ -1,7 +1,7 @@
 -- The place lies between the two bounds.
-use mathlib.Core.Path.{_≡_, refl, sym, ap, _∙_}
-use Prim.Native.Nat.{ℕ, _+_, _-_, _*_, _/_, _%_, _≤_, _<_}
-use lib.ListN.{length, take, getD}
+use mathlib.Core.Path.{_≡_, sym, ap, _∙_}
+use Prim.Native.Nat.{ℕ, _+_, _-_, _/_, _≤_}
+use lib.ListN.{getD}
 use Rattle.model.specs.Statements.{Ascending}
 use Rattle.model.specs.Bytes.{Bytes, compareBytes}
 use Rattle.edit.specs.Sorted.{lower}
@@ -12,10 +12,6 @@ use borrow.Author.Needs.{needs}
 use native.Mathlib.Omega.{arith}
 use Rattle.edit.proofs.tables.name_place.Statement.{statement}
 use Rattle.edit.proofs.tables.name_place.Tie as tie
-use Rattle.edit.proofs.tables.name_place.Reads as reads
-use Rattle.edit.proofs.tables.name_place.Lts as lts
-use Rattle.edit.proofs.tables.body.Reads as body-reads
-use Rattle.text.proofs.compare.Reads as compare-reads
 
 abbrev Inv-loop : tie.InvT-loop
 Inv-loop refs pool n name lo₀ hi₀ lo hi = (lo ≤ hi) × (hi ≤ n) × (lo ≤ lower compareBytes name (namesIn pool n refs)) × (lower compareBytes name (namesIn pool n refs) ≤ hi)
