@@ -8,3 +8,5 @@ pub mod Bodies
 pub mod Pairs
 pub mod PutName
 pub mod PutPair
+pub mod Writing
+pub mod Stored

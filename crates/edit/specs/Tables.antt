@@ -2,7 +2,7 @@
 -- numbers, first place * 65536 + second place. Assumes nothing.
 use mathlib.Core.Path.{_≡_}
 use mathlib.Core.Bool.{Bool, false, cond}
-use mathlib.Core.List.{List, map, List·Memᴰ}
+use mathlib.Core.List.{List, [], _∷_, map, List·Memᴰ}
 use Prim.Native.Nat.{ℕ, _+_, _/_, _%_, _≤_, _<_}
 use lib.ListN.{length, take, drop}
 use lib.Dec.{ltb}
@@ -48,18 +48,18 @@ holdsAt ns p name = cond (ltb p (length ns)) (sameBytes (nameIn ns p) name) fals
 abbrev pub tableNames : Tables → List Bytes
 tableNames t = namesIn (t .pool) (t .sizes .names) (t .refs)
 
--- what the tables hold: no own name
-abbrev pub readOut : Tables → Coded
-readOut t = record {
+-- what the tables hold, with the number of the own name, its place and one more, or 0 for none
+abbrev pub readOut : Tables → ℕ → Coded
+readOut t own = record {
   names = tableNames t;
-  own = 0;
+  own = own;
   subgraph = pairsIn (t .sizes .subgraph) (t .subs);
   translation = pairsIn (t .sizes .translation) (t .trans);
 }
 
--- the graph name shown
+-- the graph name shown: no own name
 abbrev pub graphIn : Tables → GraphName
-graphIn t = meaning (readOut t)
+graphIn t = meaning (readOut t 0)
 
 -- the first k numbers of a table are pairs of places below n, and ascend
 pub record KeptPairs (n k : ℕ) (xs : List ℕ) : Type 0 where
@@ -117,3 +117,20 @@ pub record NamePut (t : Tables) (name : Bytes) (u : Tables) (at : ℕ) : Type 0 
 pub record PairPut (kind : Kind) (t : Tables) (from to : Bytes) (u : Tables) : Type 0 where
   pub good : Good u
   pub graph : graphIn u ≡ withPair kind (record { from = from; to = to }) (graphIn t)
+
+-- ------------------------------------------------------------------ what is stored
+
+-- the tables, with the own name of this number, are those of a graph name within the sizes
+pub record Storable (t : Tables) (own : ℕ) : Type 0 where
+  pub kept : Kept t
+  pub own-within : own ≤ t .sizes .names
+  pub count : t .sizes .names ≤ 512
+  pub bytes : t .sizes .bytes ≤ 22520
+  pub subgraph : t .sizes .subgraph ≤ 1024
+  pub translation : t .sizes .translation ≤ 1024
+  pub used : names (meaning (readOut t own)) ≡ tableNames t
+
+-- start and length of each name of a table, the first at `start`
+unfoldable pub entryPairs : ℕ → List ℕ → List (ℕ × ℕ)
+entryPairs start [] = []
+entryPairs start (r ∷ rs) = (start, r % 65536) ∷ entryPairs (start + r % 65536) rs

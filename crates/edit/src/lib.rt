@@ -1,7 +1,9 @@
 // Making and changing records: the working tables that reading, adding and merging share, and the operations on record buffers.
 mod sorted;
+mod storing;
 mod tables;
 
+pub use storing::store;
 pub use tables::Placed;
 pub use tables::Sizes;
 pub use tables::name_table;
