@@ -10,3 +10,6 @@ pub mod PutName
 pub mod PutPair
 pub mod Writing
 pub mod Stored
+pub mod Total
+pub mod Judge
+pub mod Records

@@ -34,7 +34,7 @@ use Rattle.edit.proofs.PutName.{holds-true, holds-false}
 
 -- a name that was put in stands at its place
 module _ {A : Type 0} {cmp : A → A → Order} (ord : StrictOrder cmp) (d x : A) where
-  insert-at-lower : (ys : List A) → (lower cmp x ys < length (insert cmp x ys)) × (getD (insert cmp x ys) (lower cmp x ys) d ≡ x)
+  pub insert-at-lower : (ys : List A) → (lower cmp x ys < length (insert cmp x ys)) × (getD (insert cmp x ys) (lower cmp x ys) d ≡ x)
   unfolding insert lower
   insert-at-lower [] = (omega arith, refl)
   insert-at-lower (y ∷ ys) = rw (ord .flip x y) (go (cmp x y) refl (insert-at-lower ys))

@@ -1,8 +1,10 @@
 // Making and changing records: the working tables that reading, adding and merging share, and the operations on record buffers.
+mod judging;
 mod sorted;
 mod storing;
 mod tables;
 
+pub use judging::judged;
 pub use storing::store;
 pub use tables::Placed;
 pub use tables::Sizes;

@@ -26,11 +26,11 @@ pub struct Placed {
     pub sizes: Sizes,
 }
 
-// A table with room for the names of two full records and two more.
-pub fn name_table() -> [u32; 1026]
-    ensures { λ r. ⌜ length r ≡ 1026 ⌝ }
+// A table with room for the names of two full records and four more.
+pub fn name_table() -> [u32; 1028]
+    ensures { λ r. ⌜ length r ≡ 1028 ⌝ }
 {
-    [0; 1026]
+    [0; 1028]
 }
 
 // A table with room for the pairs of one kind of two full records and two more.
@@ -40,11 +40,11 @@ pub fn pair_table() -> [u32; 2050]
     [0; 2050]
 }
 
-// A pool with room for the bodies of two full records and two more of the longest.
-pub fn pool() -> [u8; 45552]
-    ensures { λ r. ⌜ length r ≡ 45552 ⌝ }
+// A pool with room for the bodies of two full records and three more of the longest.
+pub fn pool() -> [u8; 45808]
+    ensures { λ r. ⌜ length r ≡ 45808 ⌝ }
 {
-    [0; 45552]
+    [0; 45808]
 }
 
 // The body that a number of the table of names stands for.
@@ -73,7 +73,7 @@ pub(crate) fn name_place(refs: &[u32], pool: &[u8], n: usize, name: &[u8]) -> us
 }
 
 // Whether `name` stands at place p of the n names.
-fn is_at(refs: &[u32], pool: &[u8], n: usize, p: usize, name: &[u8]) -> bool
+pub(crate) fn is_at(refs: &[u32], pool: &[u8], n: usize, p: usize, name: &[u8]) -> bool
     requires { ⌜ n ≤ length (now refs) ⌝ }
     ensures { λ r. ⌜ r ≡ holdsAt (namesIn (now (pool .entry)) n (now (refs .entry))) p (now (name .entry)) ⌝ }
 {
