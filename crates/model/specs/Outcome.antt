@@ -11,7 +11,7 @@ use Rattle.model.specs.Record.{GraphName, empty, withName, withPair, wit
 use Rattle.model.specs.declared.Kind.{Kind}
 use Rattle.model.specs.declared.Kind.the-variants.{Subgraph, Translation}
 use Rattle.model.specs.Layout.{recordLength, encode, decode}
-use Rattle.model.specs.Reading.{Reading, done, refused, fromHeaderLines}
+use Rattle.model.specs.Reading.{Refusal, Reading, done, refused, fromHeaderLines, fromTags}
 use Rattle.model.specs.Path.{Step, subgraphPath, fullPath, pathBytes}
 
 -- a number, and a buffer
@@ -19,13 +19,28 @@ pub record Outcome : Type 0 where
   pub number : ℕ
   pub buffer : Bytes
 
--- a reading overwrites the buffer: the record, or the empty one; of a wrong size nothing is written
+-- a reading overwrites the buffer: the record, or the empty one
 abbrev pub outcomeOf : Reading → Outcome
 outcomeOf (done g) = record { number = 0; buffer = encode g }
 outcomeOf (refused r) = record { number = r .number; buffer = replicate recordLength 0 }
 
+-- of a wrong size nothing is written
+abbrev pub readingInto : Reading → Bytes → Outcome
+readingInto r buffer = cond (eqb (length buffer) recordLength) (outcomeOf r) (record { number = 15; buffer = buffer })
+
 unfoldable pub readInto : Bytes → Bytes → Outcome
-readInto t buffer = cond (eqb (length buffer) recordLength) (outcomeOf (fromHeaderLines t)) (record { number = 15; buffer = buffer })
+readInto t buffer = readingInto (fromHeaderLines t) buffer
+
+unfoldable pub readTagsInto : Option Bytes → Option Bytes → Option Bytes → Bytes → Outcome
+readTagsInto name subgraph translation buffer = readingInto (fromTags name subgraph translation) buffer
+
+-- what a reading says: its refusal, or all 0; of a wrong size 15, with line 0 and no part
+abbrev pub refusalOf : Reading → Refusal
+refusalOf (done g) = record { number = 0; line = 0; start = 0; size = 0 }
+refusalOf (refused r) = r
+
+abbrev pub refusalInto : Reading → Bytes → Refusal
+refusalInto r buffer = cond (eqb (length buffer) recordLength) (refusalOf r) (record { number = 15; line = 0; start = 0; size = 0 })
 
 -- the whole outcome judged once; a refusal leaves the buffer as it was
 abbrev pub keptOr : Bytes → GraphName → Outcome
