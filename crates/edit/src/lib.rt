@@ -5,6 +5,7 @@ mod storing;
 mod tables;
 
 pub use judging::judged;
+pub use storing::clear;
 pub use storing::store;
 pub use tables::Placed;
 pub use tables::Sizes;

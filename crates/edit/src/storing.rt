@@ -78,7 +78,7 @@ fn put_bodies(buffer: &mut [u8], at: usize, refs: &[u32], pool: &[u8], n: usize)
 }
 
 // Clears the bytes from `at` on.
-pub(crate) fn clear(buffer: &mut [u8], at: usize)
+pub fn clear(buffer: &mut [u8], at: usize)
     requires { ⌜ at ≤ length (now buffer) ⌝ }
     ensures { λ _. ⌜ now (buffer .exit) ≡ put (now (buffer .entry)) at (replicate (length (now (buffer .entry)) - at) 0) ⌝ }
 {

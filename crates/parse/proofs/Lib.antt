@@ -2,7 +2,6 @@ pub mod Classified
 pub mod Parts
 pub mod Rest
 pub mod Steps
-pub mod Judged
 pub mod Progress
 pub mod Ongoing
 pub mod Stored

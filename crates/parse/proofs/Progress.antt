@@ -1,16 +1,16 @@
 -- A field taken into the tables and the own name: what is judged, the room for a pair, and what stands then.
 use mathlib.Core.Path.{_≡_, refl, sym, ap, _∙_}
-use mathlib.Core.Bool.{Bool, true, false, cond}
-use mathlib.Core.List.{List, map, List·Memᴰ, List·Memᴰ·head}
+use mathlib.Core.Bool.{Bool, true, false, cond, _||_}
+use mathlib.Core.List.{List}
 use mathlib.Core.Option.{Option, some, none}
 use mathlib.Core.Logic.{inr}
 use Prim.Native.Nat.{ℕ, zero, suc, _+_, _-_, _≤_, _<_}
 use native.Mathlib.Omega.{arith}
 use native.Mathlib.Numerals.{add-one}
 use lib.Dec.{eqb, ltb}
-use lib.ListN.{length, take, drop, length-map, length-take, length-drop}
-use lib.Seq.{take-all, length-take-le, take-append-seam}
-use borrow.Author.Tests.{le-ltb, ltb-true, ltb-false, eqb-true}
+use lib.ListN.{length, take, drop, length-drop}
+use lib.Seq.{take-all, take-append-seam}
+use borrow.Author.Tests.{lt-ltb, le-ltb, ltb-false, eqb-true}
 use Rattle.model.specs.declared.Kind.{Kind}
 use Rattle.model.specs.declared.Kind.the-variants.{Subgraph, Translation}
 use Rattle.model.specs.Bytes.{Bytes, compareBytes, put}
@@ -18,15 +18,17 @@ use Rattle.model.specs.Record.{Pair, GraphName, insert, names, anyLong, bodies,
 use Rattle.model.specs.Statements.{Ascending}
 use Rattle.model.specs.Reading.{took, wrong, judged}
 use Rattle.text.proofs.Order.{bytes-order}
-use Rattle.text.proofs.Ascending.{insert-members, insert-self}
+use Rattle.text.proofs.Ascending.{insert-members, insert-ascending}
 use Rattle.text.proofs.Put.{length-put}
-use Rattle.record.proofs.Names.{own-listed}
 use Rattle.record.proofs.Sizes.{judge-sizes}
-use Rattle.record.specs.Coded.{pairIn}
 use Rattle.edit.specs.declared.tables.Sizes.{Sizes}
-use Rattle.edit.specs.Tables.{Tables, tables, namesIn, placesOf, pairsIn, tableNames, graphIn, Good, PairRoom, PairPut}
+use Rattle.edit.specs.Tables.{Tables, tables, namesIn, tableNames, graphIn, Good, PairRoom, PairPut}
 use Rattle.edit.proofs.Search.{length-names}
+use Rattle.edit.specs.Judging.{owned, namesAnd, NamesKept}
 use Rattle.edit.proofs.Pairs.{names-withPair}
+use Rattle.edit.proofs.Total.{total, total-count, total-bodies, total-part}
+use Rattle.edit.proofs.Judge.{names-owned, any-insert, length-shown, judge-tables}
+use Rattle.text.proofs.Tests.{either-true}
 use Rattle.parse.specs.declared.field.Content.{Content}
 use Rattle.parse.specs.declared.field.Content.the-variants.{Fault, Nothing, Name, Relation}
 use Rattle.parse.specs.Fields.{apply}
@@ -34,48 +36,27 @@ use Rattle.parse.specs.Contents.{fieldOf}
 use Rattle.parse.specs.declared.taking.State.{State}
 use Rattle.parse.specs.declared.taking.FieldTaken.{FieldTaken}
 use Rattle.parse.specs.declared.taking.FieldTaken.the-variants.{Took, Wrong}
-use Rattle.parse.specs.State.{ownOf, withOwn, graphNow, namesWith, judgeNames, Counted, judgedAs, nameTaken, Held, Ready, TakenAs}
-use Rattle.parse.proofs.Judged.{names-own, long-member, short-insert, own-more, judge-long, judge-short}
+use Rattle.parse.specs.State.{ownOf, graphNow, judgeNames, judgedAs, nameTaken, Held, Ready, TakenAs}
 
 -- ------------------------------------------------------------------ what is judged
 
-abbrev pub ShortOwn : Option Bytes → Type 0
-ShortOwn none = Unit {0}
-ShortOwn (some x) = length x ≤ 256
-
-pub pairs-count : (ns : List Bytes) (k : ℕ) (xs : List ℕ) → k ≤ length xs → length (map (pairIn ns) (pairsIn k xs)) ≡ k
-pairs-count ns k xs h = length-map (pairsIn k xs) (pairIn ns) ∙ length-map (take k xs) placesOf ∙ length-take-le k xs h
-
--- the names of the tables with an own name are those of the graph name
 module _ (t : Tables) (good : Good t) where
-  pub now-names : (o : Option Bytes) → names (withOwn o (graphIn t)) ≡ namesWith o (tableNames t)
-  now-names none = good .used
-  now-names (some x) = names-own x (graphIn t) ∙ rw (good .used)
+  -- the names of the tables with an own name are those of the graph name
+  pub now-names : (o : Option Bytes) → names (owned o (graphIn t)) ≡ namesAnd o (tableNames t)
+  now-names o = names-owned o (graphIn t) ∙ ap (namesAnd o) (good .used)
 
-  now-short : (o : Option Bytes) → ShortOwn o → anyLong (namesWith o (tableNames t)) ≡ false
-  now-short none s = good .kept .short
-  now-short (some x) s = short-insert x (tableNames t) s (good .kept .short)
-
-  pub judge-now : (o : Option Bytes) → ShortOwn o → judge (withOwn o (graphIn t)) ≡ judgeNames o (tableNames t) (t .sizes)
-  judge-now o s =
-      judge-short (withOwn o (graphIn t)) (rw (now-names o) (now-short o s))
-      ∙ rw (
-        now-names o,
-        pairs-count (tableNames t) (t .sizes .subgraph) (t .subs) (good .kept .subgraph .within),
-        pairs-count (tableNames t) (t .sizes .translation) (t .trans) (good .kept .translation .within),
-      )
-
-  pub counted : Counted (t .refs) (t .pool) (t .sizes)
-  counted = record {
+  pub names-kept : NamesKept (t .refs) (t .pool) (t .sizes)
+  names-kept = record {
     order = good .kept .order;
-    within = good .kept .count;
+    short = good .kept .short;
     total = good .kept .total;
+    count = good .kept .count;
     room = good .kept .room;
   }
 
-pub own-short : (own : Bytes) (n : ℕ) → n ≤ 257 → ShortOwn (ownOf own n)
-own-short own zero h = tt
-own-short own (suc k) h = omega (arith, length-take k own)
+pub own-some : (own : Bytes) (n : ℕ) → (n ≡ 0 → ⊥) → ownOf own n ≡ some (take (n - 1) own)
+own-some own zero h = absurd (h refl)
+own-some own (suc k) h = let e : suc k - 1 ≡ k = omega arith in rw e
 
 -- ------------------------------------------------------------------ a state that is judged
 
@@ -86,7 +67,7 @@ module _ (refs subs trans : List ℕ) (pool own : Bytes) (s : State) (h : Held (
   pub state-taken : (r : FieldTaken) → r ≡ judgedAs (judgeNames (ownOf own (s .own)) (namesIn pool (s .sizes .names) refs) (s .sizes)) s
       → (g : GraphName) → shown ≡ g → TakenAs (tables refs subs trans pool) own r (judged g)
   state-taken r e g d =
-      let j = judge-now (tables refs subs trans pool (s .sizes)) (h .good) (ownOf own (s .own)) (own-short own (s .own) (h .short)) in
+      let j = judge-tables (tables refs subs trans pool (s .sizes)) (ownOf own (s .own)) (h .good) in
       rw (e, ← d, ← j) (go (eqb (judge shown) 0) refl)
     where
       go : (b : Bool) → eqb (judge shown) 0 ≡ b → TakenAs (tables refs subs trans pool) own (cond b (Took s) (Wrong (judge shown))) (cond b (took shown) (wrong (judge shown)))
@@ -104,17 +85,29 @@ pub name-taken : (ns : List Bytes) (sizes : Sizes) (own own′ x : Bytes) (size 
     → judgedAs (judgeNames (ownOf own′ (size + 1)) ns sizes) (record { sizes = sizes; own = size + 1 }) ≡ nameTaken ns sizes x
 name-taken ns sizes own own′ x size e d h = let n : size ≡ length x = omega arith in rw (n, d, own-kept own x, le-ltb 256 (length x) h)
 
-judged-long : (g : GraphName) (x : Bytes) → List·Memᴰ x (names g) → 256 < length x → judged g ≡ wrong 11
-judged-long g x m h = rw (judge-long g (long-member x (names g) m h))
+judged-long : (g : GraphName) → anyLong (names g) ≡ true → judged g ≡ wrong 11
+unfolding judge
+judged-long g e = rw e
 
 -- an own name makes the names no fewer
 with-more : (o : Option Bytes) (ns : List Bytes) → Ascending compareBytes ns
-    → (length ns ≤ length (namesWith o ns)) × (length (bodies ns) ≤ length (bodies (namesWith o ns)))
+    → (length ns ≤ length (namesAnd o ns)) × (length (bodies ns) ≤ length (bodies (namesAnd o ns)))
 with-more none ns a = omega arith
-with-more (some x) ns a = own-more ns a x
+with-more (some x) ns a =
+    let c = rw (total-count ns, total-count (insert compareBytes x ns)) at (more (λ y. 1)) in
+    let b = rw (total-bodies ns, total-bodies (insert compareBytes x ns)) at (more length) in
+    (c, b)
+  where
+    more : (f : Bytes → ℕ) → total f ns ≤ total f (insert compareBytes x ns)
+    more f = total-part bytes-order f ns (insert compareBytes x ns) a (insert-ascending bytes-order x ns a) (λ y m. insert-members bytes-order x ns y .1 (inr m))
+
+either-more : (s t u : Bool) → s || t ≡ true → s || (t || u) ≡ true
+either-more true t u e = refl
+either-more false true u e = refl
+either-more false false u e = cc
 
 -- a pair and the own name do not meddle
-own-apart : (k : Kind) (p : Pair) (o : Option Bytes) (g : GraphName) → withOwn o (withPair k p g) ≡ withPair k p (withOwn o g)
+own-apart : (k : Kind) (p : Pair) (o : Option Bytes) (g : GraphName) → owned o (withPair k p g) ≡ withPair k p (owned o g)
 own-apart Subgraph p o g = refl
 own-apart Translation p o g = refl
 
@@ -129,8 +122,8 @@ module _ (refs subs trans : List ℕ) (pool own : Bytes) (sizes : Sizes) (n : �
     where
       go : (b : Bool) → ltb 256 (length x) ≡ b → TakenAs (tables refs subs trans pool) own′ r (judged (withName x before))
       go true l =
-          let m = own-listed (withName x before) x (List·Memᴰ·head refl) in
-          rw (e, l, judged-long (withName x before) x m (ltb-true 256 (length x) l)) (record { same = refl; ready = tt })
+          let m : anyLong (names (withName x before)) ≡ true = ap anyLong (names-owned (some x) before) ∙ any-insert x (names (owned none before)) ∙ rw l in
+          rw (e, l, judged-long (withName x before) m) (record { same = refl; ready = tt })
       go false l =
           let s = ltb-false 256 (length x) l in
           let k : ownOf own′ (length x + 1) ≡ some x = rw (d s) (own-kept own x) in
@@ -159,8 +152,8 @@ module _ (refs subs trans : List ℕ) (pool own : Bytes) (sizes : Sizes) (n : �
       let c = length-names pool (sizes .names) refs (good .kept .count) in (
         omega (arith, s .count, ap length e, m, c),
         omega (arith, s .room, ap (λ (ns : List Bytes). length (bodies ns)) e, m, good .kept .total),
-        omega (arith, s .subgraphs, pairs-count (tableNames t) (sizes .subgraph) subs (good .kept .subgraph .within)),
-        omega (arith, s .translations, pairs-count (tableNames t) (sizes .translation) trans (good .kept .translation .within)),
+        omega (arith, s .subgraphs, length-shown (tableNames t) (sizes .subgraph) subs (good .kept .subgraph .within)),
+        omega (arith, s .translations, length-shown (tableNames t) (sizes .translation) trans (good .kept .translation .within)),
       )
 
   -- so there is room for two names and a pair more
@@ -178,24 +171,24 @@ module _ (refs subs trans : List ℕ) (pool own : Bytes) (sizes : Sizes) (n : �
     abbrev pair : Pair
     pair = record { from = from; to = to }
 
-    pair-names : names (withPair k pair before) ≡ insert compareBytes to (insert compareBytes from (names before))
-    pair-names = names-withPair k pair before
+    -- a long name of the pair's is one of the names
+    long-pair : ltb 256 (length to) || ltb 256 (length from) ≡ true → (at : Sizes → Tables) → TakenAs at own (Wrong 11) (judged (withPair k pair before))
+    long-pair l at =
+        let m : anyLong (names (withPair k pair before)) ≡ true =
+        ap anyLong (names-withPair k pair before) ∙ any-insert to (insert compareBytes from (names before)) ∙ rw (any-insert from (names before)) (either-more (ltb 256 (length to)) (ltb 256 (length from)) (anyLong (names before)) l) in
+        rw (judged-long (withPair k pair before) m) (record { same = refl; ready = tt })
 
     pub long-from : (at : Sizes → Tables) → 256 < length from → TakenAs at own (Wrong 11) (judged (withPair k pair before))
-    long-from at l =
-        let m : List·Memᴰ from (names (withPair k pair before)) = rw pair-names (insert-members bytes-order to (insert compareBytes from (names before)) from .1 (inr (insert-self bytes-order from (names before)))) in
-        rw (judged-long (withPair k pair before) from m l) (record { same = refl; ready = tt })
+    long-from at l = long-pair (either-true (ltb 256 (length to)) (ltb 256 (length from)) .1 (inr (lt-ltb 256 (length from) l))) at
 
     pub long-to : (at : Sizes → Tables) → 256 < length to → TakenAs at own (Wrong 11) (judged (withPair k pair before))
-    long-to at l =
-        let m : List·Memᴰ to (names (withPair k pair before)) = rw pair-names (insert-self bytes-order to (insert compareBytes from (names before))) in
-        rw (judged-long (withPair k pair before) to m l) (record { same = refl; ready = tt })
+    long-to at l = long-pair (rw (lt-ltb 256 (length to) l)) at
 
     -- the tables with the pair put in
     module _ (refs′ subs′ trans′ : List ℕ) (pool′ : Bytes) (sizes′ : Sizes)
         (p : PairPut k (tables refs subs trans pool sizes) from to (tables refs′ subs′ trans′ pool′ sizes′)) where
-      pub pair-counted : Counted refs′ pool′ sizes′ × (n ≤ length own + 1)
-      pair-counted = (counted (tables refs′ subs′ trans′ pool′ sizes′) (p .good), omega (arith, h .held .short, h .held .buffer))
+      pub pair-kept : NamesKept refs′ pool′ sizes′
+      pair-kept = names-kept (tables refs′ subs′ trans′ pool′ sizes′) (p .good)
 
       pub pair-progress : length refs′ ≡ length refs → length subs′ ≡ length subs → length trans′ ≡ length trans → length pool′ ≡ length pool
           → (r : FieldTaken) → r ≡ judgedAs (judgeNames (ownOf own n) (namesIn pool′ (sizes′ .names) refs′) sizes′) (record { sizes = sizes′; own = n })
@@ -211,7 +204,7 @@ module _ (refs subs trans : List ℕ) (pool own : Bytes) (sizes : Sizes) (n : �
             trans = c ∙ h .held .trans;
             pool = d ∙ h .held .pool;
           })
-          r e (withPair k pair before) (ap (withOwn (ownOf own n)) (p .graph) ∙ own-apart k pair (ownOf own n) (graphIn (tables refs subs trans pool sizes)))
+          r e (withPair k pair before) (ap (owned (ownOf own n)) (p .graph) ∙ own-apart k pair (ownOf own n) (graphIn (tables refs subs trans pool sizes)))
 
 -- ------------------------------------------------------------------ what the field says
 

@@ -2,20 +2,20 @@
 use mathlib.Core.Path.{_≡_, sym, ap, _∙_}
 use mathlib.Core.List.{List}
 use mathlib.Core.Option.{some}
-use Prim.Native.Nat.{ℕ, _+_, _-_, _≤_, _<_}
+use Prim.Native.Nat.{ℕ, _+_, _-_, _≤_}
 use native.Mathlib.Omega.{arith}
-use native.Mathlib.Numerals.{add-one}
 use lib.ListN.{length, take, drop, length-take}
 use Rattle.model.specs.Bytes.{Bytes}
 use Rattle.model.specs.Record.{names, bodies}
 use Rattle.record.proofs.Sizes.{judge-sizes}
-use Rattle.record.specs.Coded.{nameIn, meaning}
+use Rattle.record.specs.Coded.{meaning}
 use Rattle.edit.specs.declared.tables.Sizes.{Sizes}
 use Rattle.edit.specs.Tables.{Tables, tables, tableNames, graphIn, readOut, NameRoom, NamePut, Storable}
+use Rattle.edit.specs.Judging.{owned}
+use Rattle.edit.proofs.Judge.{meaning-own, ready-own}
 use Rattle.edit.proofs.Search.{length-names}
-use Rattle.parse.specs.State.{withOwn, graphNow, Ready}
-use Rattle.parse.proofs.Judged.{own-some, own-place}
-use Rattle.parse.proofs.Progress.{now-names, in-use}
+use Rattle.parse.specs.State.{graphNow, Ready}
+use Rattle.parse.proofs.Progress.{own-some, now-names, in-use}
 
 module _ (refs subs trans : List ℕ) (pool own : Bytes) (sizes : Sizes) (n : ℕ) (h : Ready (tables refs subs trans pool sizes) own n) where
   abbrev t : Tables
@@ -51,7 +51,7 @@ module _ (refs subs trans : List ℕ) (pool own : Bytes) (sizes : Sizes) (n : �
           room = omega (arith, u .1, name-size, h .held .pool);
         }
 
-    graph-named : graphNow t own n ≡ withOwn (some x) (graphIn t)
+    graph-named : graphNow t own n ≡ owned (some x) (graphIn t)
     graph-named = rw (own-some own n m, s)
 
     -- with the own name they are the tables u, and it stands at p
@@ -59,12 +59,8 @@ module _ (refs subs trans : List ℕ) (pool own : Bytes) (sizes : Sizes) (n : �
       abbrev u : Tables
       u = tables refs′ subs′ trans′ pool′ sizes′
 
-      found : (p < length (tableNames u)) × (nameIn (tableNames u) p ≡ x)
-      found = rw (k .names, k .place) (own-place (tableNames t) (h .held .good .kept .order) x)
-
       pub graph-own : meaning (readOut u (p + 1)) ≡ graphNow t own n
-      graph-own = rw (add-one p)
-          (ap (λ (z : Bytes). withOwn (some z) (graphIn u)) (found .1) ∙ ap (withOwn (some x)) (k .graph) ∙ sym graph-named)
+      graph-own = meaning-own t u x p (h .held .good) k ∙ sym graph-named
 
       all-names : names (graphNow t own n) ≡ tableNames u
       all-names = ap names graph-named ∙ now-names t (h .held .good) (some x) ∙ sym (k .names)
@@ -74,12 +70,13 @@ module _ (refs subs trans : List ℕ) (pool own : Bytes) (sizes : Sizes) (n : �
           let w = in-use refs subs trans pool own sizes n h in
           let s = judge-sizes (graphNow t own n) (h .sizes) in
           let c = length-names pool′ (sizes′ .names) refs′ (k .kept .count) in
+          let r = ready-own t u x p (h .held .good) k in
           record {
-            kept = k .kept;
-            own-within = omega (arith, found .0, c);
+            kept = r .kept;
+            own-within = r .own-within;
             count = omega (arith, s .count, ap length all-names, c);
             bytes = omega (arith, s .room, ap (λ (ns : List Bytes). length (bodies ns)) all-names, k .kept .total);
             subgraph = omega (arith, w .2, k .subgraph);
             translation = omega (arith, w .3, k .translation);
-            used = ap names graph-own ∙ all-names;
+            used = r .used;
           }

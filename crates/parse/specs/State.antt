@@ -1,17 +1,17 @@
 -- The state of a reading: the working tables with the own name so far, which is kept apart, and the graph name that they come to. Assumes nothing.
 use mathlib.Core.Path.{_≡_}
-use mathlib.Core.Bool.{cond, _||_}
+use mathlib.Core.Bool.{cond}
 use mathlib.Core.List.{List}
 use mathlib.Core.Option.{Option, some, none}
 use Prim.Native.Nat.{ℕ, zero, suc, _+_, _≤_}
 use lib.ListN.{length, take}
 use lib.Dec.{eqb, ltb}
-use Rattle.model.specs.Bytes.{Bytes, compareBytes}
-use Rattle.model.specs.Record.{GraphName, insert, bodies, judge}
-use Rattle.model.specs.Statements.{Ascending}
+use Rattle.model.specs.Bytes.{Bytes}
+use Rattle.model.specs.Record.{GraphName, judge}
 use Rattle.model.specs.Reading.{Taken, took, wrong, Reading, done, refused}
 use Rattle.edit.specs.declared.tables.Sizes.{Sizes}
-use Rattle.edit.specs.Tables.{Tables, namesIn, graphIn, Good}
+use Rattle.edit.specs.Tables.{Tables, graphIn, Good}
+use Rattle.edit.specs.Judging.{owned, namesAnd, sizeFault}
 use Rattle.parse.specs.declared.field.Source.{Source}
 use Rattle.parse.specs.declared.field.Source.the-variants.{Header, Tag}
 use Rattle.parse.specs.declared.reading.Ended.{Ended}
@@ -25,44 +25,25 @@ abbrev pub ownOf : Bytes → ℕ → Option Bytes
 ownOf own zero = none
 ownOf own (suc k) = some (take k own)
 
-abbrev pub withOwn : Option Bytes → GraphName → GraphName
-withOwn o g = record { name = o; subgraph = g .subgraph; translation = g .translation }
-
 -- the graph name so far
 abbrev pub graphNow : Tables → Bytes → ℕ → GraphName
-graphNow t own n = withOwn (ownOf own n) (graphIn t)
+graphNow t own n = owned (ownOf own n) (graphIn t)
 
 -- tables and a buffer for the own name, of their lengths
 pub record Fresh (rs ss ts : List ℕ) (bytes name : Bytes) : Type 0 where
-  pub refs : length rs ≡ 1026
+  pub refs : length rs ≡ 1028
   pub subs : length ss ≡ 2050
   pub trans : length ts ≡ 2050
-  pub pool : length bytes ≡ 45552
+  pub pool : length bytes ≡ 45808
   pub own : length name ≡ 256
 
 -- nothing taken yet
 abbrev pub nothingTaken : State
 nothingTaken = record { sizes = record { names = 0; bytes = 0; subgraph = 0; translation = 0 }; own = 0 }
 
--- document 01's numbers 12 to 14, in their order, or 0
-unfoldable pub judgeSizes : ℕ → ℕ → ℕ → ℕ → ℕ
-judgeSizes names bytes subgraph translation =
-    cond (ltb 512 names) 12 (cond (ltb 1024 subgraph || ltb 1024 translation) 13 (cond (ltb 22520 bytes) 14 0))
-
--- the names with an own name, and the number that they and the pairs come to
-abbrev pub namesWith : Option Bytes → List Bytes → List Bytes
-namesWith none ns = ns
-namesWith (some x) ns = insert compareBytes x ns
-
+-- the number that names with an own name, and as many pairs as the sizes say, come to
 abbrev pub judgeNames : Option Bytes → List Bytes → Sizes → ℕ
-judgeNames own ns sizes = judgeSizes (length (namesWith own ns)) (length (bodies (namesWith own ns))) (sizes .subgraph) (sizes .translation)
-
--- the names in use ascend, and are as many and as long as the sizes say
-pub record Counted (refs : List ℕ) (pool : Bytes) (sizes : Sizes) : Type 0 where
-  pub order : Ascending compareBytes (namesIn pool (sizes .names) refs)
-  pub within : sizes .names ≤ length refs
-  pub total : sizes .bytes ≡ length (bodies (namesIn pool (sizes .names) refs))
-  pub room : sizes .bytes ≤ length pool
+judgeNames own ns sizes = sizeFault (namesAnd own ns) (sizes .subgraph) (sizes .translation)
 
 -- a state that is judged by a number
 abbrev pub judgedAs : ℕ → State → FieldTaken
@@ -77,10 +58,10 @@ pub record Held (t : Tables) (own : Bytes) (n : ℕ) : Type 0 where
   pub good : Good t
   pub short : n ≤ 257
   pub buffer : length own ≡ 256
-  pub refs : length (t .refs) ≡ 1026
+  pub refs : length (t .refs) ≡ 1028
   pub subs : length (t .subs) ≡ 2050
   pub trans : length (t .trans) ≡ 2050
-  pub pool : length (t .pool) ≡ 45552
+  pub pool : length (t .pool) ≡ 45808
 
 -- and the sizes are within document 01's: so it is between two fields
 pub record Ready (t : Tables) (own : Bytes) (n : ℕ) : Type 0 where

@@ -1,6 +1,7 @@
-// Header lines and tags read, field by field.
+// Header lines and tags read into a record, field by field.
 //
-// A field is classified by itself first, in `field`: its fault, nothing that counts, an own name, or a pair, by their places.
+// `field` says what a field says by itself, and `next` which field of a text is next; `taking` takes a field into the working tables and
+// judges the sizes, `reading` does so for a whole text; `finish` writes the record. `header` and `tags` have the two public readings.
 mod field;
 mod finish;
 mod header;

@@ -8,10 +8,11 @@ ghost use lib.ListN.{length};
 ghost use Rattle.model.specs.Bytes.{put};
 ghost use Rattle.model.specs.Record.{withPair};
 ghost use Rattle.model.specs.Reading.{judged};
+ghost use Rattle.edit.specs.Judging.{NamesKept};
 ghost use Rattle.edit.specs.Tables.{tables, namesIn};
 ghost use Rattle.parse.specs.Fields.{apply};
 ghost use Rattle.parse.specs.Contents.{fieldOf, Within};
-ghost use Rattle.parse.specs.State.{nothingTaken, ownOf, graphNow, judgeSizes, judgeNames, judgedAs, nameTaken, Counted, Ready, TakenAs};
+ghost use Rattle.parse.specs.State.{nothingTaken, ownOf, graphNow, judgeNames, judgedAs, nameTaken, Ready, TakenAs};
 
 // What a reading has so far: how much of the tables is in use, and the own name's length and one more, or 0 for none.
 pub(crate) struct State {
@@ -40,59 +41,32 @@ pub(crate) fn begin() -> State
     }
 }
 
-// Document 01's numbers 12 to 14, in their order, or 0.
-fn judge_sizes(names: usize, bytes: usize, subgraph: usize, translation: usize) -> usize
-    ensures { λ r. ⌜ r ≡ judgeSizes names bytes subgraph translation ⌝ }
-{
-    if 512 < names {
-        return 12;
-    }
-    if 1024 < subgraph {
-        return 13;
-    }
-    if 1024 < translation {
-        return 13;
-    }
-    if 22520 < bytes {
-        return 14;
-    }
-    0
-}
-
 // The number of the tables with the own name, which is counted once.
-fn judge(refs: &[u32], pool: &[u8], sizes: Sizes, own: &[u8], n: usize) -> usize
-    requires { ⌜ Counted (now refs) (now pool) sizes × (n ≤ length (now own) + 1) ⌝ }
+fn judge(refs: &[u32], pool: &[u8], sizes: Sizes, own: &[u8], n: usize) -> u32
+    requires { ⌜ NamesKept (now refs) (now pool) sizes ⌝ }
     ensures { λ r. ⌜ r ≡ judgeNames (ownOf (now (own .entry)) n) (namesIn (now (pool .entry)) (sizes .names) (now (refs .entry))) sizes ⌝ }
 {
-    let names = sizes.names;
-    let bytes = sizes.bytes;
-    let subgraph = sizes.subgraph;
-    let translation = sizes.translation;
     if n == 0 {
-        return judge_sizes(names, bytes, subgraph, translation);
+        return edit::judged(refs, pool, sizes, false, own);
     }
-    let name = text::part(own, 0, n - 1);
-    if edit::has_name(refs, pool, names, name) {
-        return judge_sizes(names, bytes, subgraph, translation);
-    }
-    judge_sizes(names + 1, bytes + name.len(), subgraph, translation)
+    edit::judged(refs, pool, sizes, true, text::part(own, 0, n - 1))
 }
 
 // A state, if its sizes allow it.
 fn judged_state(refs: &[u32], pool: &[u8], own: &[u8], state: State) -> FieldTaken
-    requires { ⌜ Counted (now refs) (now pool) (state .sizes) × (state .own ≤ length (now own) + 1) ⌝ }
+    requires { ⌜ NamesKept (now refs) (now pool) (state .sizes) ⌝ }
     ensures { λ r. ⌜ r ≡ judgedAs (judgeNames (ownOf (now (own .entry)) (state .own)) (namesIn (now (pool .entry)) (state .sizes .names) (now (refs .entry))) (state .sizes)) state ⌝ }
 {
     let number = judge(refs, pool, state.sizes, own, state.own);
     if number == 0 {
         return FieldTaken::Took(state);
     }
-    FieldTaken::Wrong(number)
+    FieldTaken::Wrong(number as usize)
 }
 
 // An own name, in the place of the one before.
 fn take_name(refs: &[u32], pool: &[u8], own: &mut [u8], sizes: Sizes, name: &[u8]) -> FieldTaken
-    requires { ⌜ Counted (now refs) (now pool) sizes × (length (now own) ≡ 256) ⌝ }
+    requires { ⌜ NamesKept (now refs) (now pool) sizes × (length (now own) ≡ 256) ⌝ }
     ensures { λ r. ⌜ (r ≡ nameTaken (namesIn (now (pool .entry)) (sizes .names) (now (refs .entry))) sizes (now (name .entry))) × (length (now (name .entry)) ≤ 256 → now (own .exit) ≡ put (now (own .entry)) 0 (now (name .entry))) ⌝ }
 {
     if 256 < name.len() {

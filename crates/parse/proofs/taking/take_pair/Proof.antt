@@ -1,5 +1,5 @@
 -- A long name, or the pair put in and judged.
-use Rattle.parse.proofs.Progress.{long-from, long-to, pair-room, pair-counted, pair-progress}
+use Rattle.parse.proofs.Progress.{long-from, long-to, pair-room, pair-kept, pair-progress}
 use borrow.Author.Needs.{needs}
 use Rattle.parse.proofs.taking.take_pair.Statement.{statement}
 use Rattle.parse.proofs.taking.take_pair.Tie as tie
@@ -37,7 +37,7 @@ judged-state-requires c κs =
     let l = p .put-pair .last .1 in
     let s = start (p .before .before .before .before .before) in
     let a = s .args in
-    pair-counted (a .refs .now) (a .subs .now) (a .trans .now) (a .pool .now) (a .own .now) (a .state .sizes) (a .state .own) (s .pre)
+    pair-kept (a .refs .now) (a .subs .now) (a .trans .now) (a .pool .now) (a .own .now) (a .state .sizes) (a .state .own) (s .pre)
     (a .kind) (a .from .now) (a .to .now) (l .0) (l .1 .0) (l .1 .1 .0) (l .1 .1 .1 .0) (p .put-pair .result) (p .put-pair .ensures)
 
 same-length : tie.Need-same-length
