@@ -23,11 +23,11 @@ use Rattle.parse.specs.Rest.{restOf}
 use Rattle.parse.specs.declared.field.Source.the-variants.{Header}
 use Rattle.parse.proofs.Rest.{header-start}
 use Rattle.parse.specs.Answers.{refusalIn}
-use Rattle.parse.specs.State.{firstStop, readingOf, Fresh, nothingTaken, graphNow, Ready}
+use Rattle.parse.specs.State.{firstStop, readingOf, Lengths, nothingTaken, graphNow, Ready}
 
 -- ------------------------------------------------------------------ the start
 
-module _ (refs subs trans : List ℕ) (pool own : Bytes) (f : Fresh refs subs trans pool own) where
+module _ (refs subs trans : List ℕ) (pool own : Bytes) (f : Lengths refs subs trans pool own) where
   nothing-good : Good (tables refs subs trans pool (nothingTaken .sizes))
   unfolding names insertAll Ascending Under
   nothing-good = record {
@@ -52,11 +52,7 @@ module _ (refs subs trans : List ℕ) (pool own : Bytes) (f : Fresh refs subs tr
     held = record {
       good = nothing-good;
       short = omega arith;
-      buffer = f .own;
-      refs = f .refs;
-      subs = f .subs;
-      trans = f .trans;
-      pool = f .pool;
+      lengths = f;
     };
     sizes = refl;
   }

@@ -131,11 +131,13 @@ module _ (refs subs trans : List ℕ) (pool own : Bytes) (sizes : Sizes) (n : �
           (record {
             good = h .held .good;
             short = omega arith;
-            buffer = ap length (d s) ∙ length-put own 0 x (omega (arith, h .held .buffer)) ∙ h .held .buffer;
-            refs = h .held .refs;
-            subs = h .held .subs;
-            trans = h .held .trans;
-            pool = h .held .pool;
+            lengths = record {
+              refs = h .held .lengths .refs;
+              subs = h .held .lengths .subs;
+              trans = h .held .lengths .trans;
+              pool = h .held .lengths .pool;
+              own = ap length (d s) ∙ length-put own 0 x (omega (arith, h .held .lengths .own)) ∙ h .held .lengths .own;
+            };
           })
           r (e ∙ sym (name-taken (namesIn pool (sizes .names) refs) sizes own own′ x (length x) (omega arith) (d s) s)) (withName x before) (rw k)
 
@@ -161,10 +163,10 @@ module _ (refs subs trans : List ℕ) (pool own : Bytes) (sizes : Sizes) (n : �
   pair-room from to f g = record {
     from-short = f;
     to-short = g;
-    count = omega (arith, in-use, h .held .refs);
-    room = omega (arith, in-use, h .held .pool);
-    subgraph = omega (arith, in-use, h .held .subs);
-    translation = omega (arith, in-use, h .held .trans);
+    count = omega (arith, in-use, h .held .lengths .refs);
+    room = omega (arith, in-use, h .held .lengths .pool);
+    subgraph = omega (arith, in-use, h .held .lengths .subs);
+    translation = omega (arith, in-use, h .held .lengths .trans);
   }
 
   module _ (k : Kind) (from to : Bytes) where
@@ -198,11 +200,13 @@ module _ (refs subs trans : List ℕ) (pool own : Bytes) (sizes : Sizes) (n : �
           (record {
             good = p .good;
             short = h .held .short;
-            buffer = h .held .buffer;
-            refs = a ∙ h .held .refs;
-            subs = b ∙ h .held .subs;
-            trans = c ∙ h .held .trans;
-            pool = d ∙ h .held .pool;
+            lengths = record {
+              refs = a ∙ h .held .lengths .refs;
+              subs = b ∙ h .held .lengths .subs;
+              trans = c ∙ h .held .lengths .trans;
+              pool = d ∙ h .held .lengths .pool;
+              own = h .held .lengths .own;
+            };
           })
           r e (withPair k pair before) (ap (owned (ownOf own n)) (p .graph) ∙ own-apart k pair (ownOf own n) (graphIn (tables refs subs trans pool sizes)))
 

@@ -47,8 +47,8 @@ module _ (refs subs trans : List ℕ) (pool own : Bytes) (sizes : Sizes) (n : �
         let u = in-use refs subs trans pool own sizes n h in
         record {
           short = name-size;
-          count = omega (arith, u .0, h .held .refs);
-          room = omega (arith, u .1, name-size, h .held .pool);
+          count = omega (arith, u .0, h .held .lengths .refs);
+          room = omega (arith, u .1, name-size, h .held .lengths .pool);
         }
 
     graph-named : graphNow t own n ≡ owned (some x) (graphIn t)

@@ -29,8 +29,8 @@ ownOf own (suc k) = some (take k own)
 abbrev pub graphNow : Tables → Bytes → ℕ → GraphName
 graphNow t own n = owned (ownOf own n) (graphIn t)
 
--- tables and a buffer for the own name, of their lengths
-pub record Fresh (rs ss ts : List ℕ) (bytes name : Bytes) : Type 0 where
+-- the lengths of the tables and of the buffer for the own name
+pub record Lengths (rs ss ts : List ℕ) (bytes name : Bytes) : Type 0 where
   pub refs : length rs ≡ 1028
   pub subs : length ss ≡ 2050
   pub trans : length ts ≡ 2050
@@ -53,15 +53,11 @@ judgedAs number state = cond (eqb number 0) (Took state) (Wrong number)
 abbrev pub nameTaken : List Bytes → Sizes → Bytes → FieldTaken
 nameTaken ns sizes x = cond (ltb 256 (length x)) (Wrong 11) (judgedAs (judgeNames (some x) ns sizes) (record { sizes = sizes; own = length x + 1 }))
 
--- the tables are good and of their lengths, and the own name is within its buffer
+-- the tables are good, and the own name is within its buffer
 pub record Held (t : Tables) (own : Bytes) (n : ℕ) : Type 0 where
   pub good : Good t
   pub short : n ≤ 257
-  pub buffer : length own ≡ 256
-  pub refs : length (t .refs) ≡ 1028
-  pub subs : length (t .subs) ≡ 2050
-  pub trans : length (t .trans) ≡ 2050
-  pub pool : length (t .pool) ≡ 45808
+  pub lengths : Lengths (t .refs) (t .subs) (t .trans) (t .pool) own
 
 -- and the sizes are within document 01's: so it is between two fields
 pub record Ready (t : Tables) (own : Bytes) (n : ℕ) : Type 0 where

@@ -15,7 +15,7 @@ ghost use Rattle.model.specs.Reading.{afterReading, nameValue, tagValue, fromTa
 ghost use Rattle.model.specs.Outcome.{readTagsInto, refusalInto};
 ghost use Rattle.edit.specs.Tables.{tables};
 ghost use Rattle.parse.specs.Fields.{addTo, tagNumber};
-ghost use Rattle.parse.specs.State.{Fresh, graphNow, Ready, readingOf, ReadyAtEnd, EndedAs};
+ghost use Rattle.parse.specs.State.{Lengths, graphNow, Ready, readingOf, ReadyAtEnd, EndedAs};
 ghost use Rattle.parse.specs.Answers.{refusalIn, given};
 
 // The name's tag, if it is there.
@@ -103,7 +103,7 @@ fn read_tags(
     pool: &mut [u8],
     own: &mut [u8],
 ) -> Ended
-    requires { ⌜ Fresh (now refs) (now subs) (now trans) (now pool) (now own) ⌝ }
+    requires { ⌜ Lengths (now refs) (now subs) (now trans) (now pool) (now own) ⌝ }
     ensures { λ r. ⌜ EndedAs (tables (now (refs .exit)) (now (subs .exit)) (now (trans .exit)) (now (pool .exit))) (now (own .exit)) r (fromTags (given «has_name» (now (name .entry))) (given «has_subgraph» (now (subgraph .entry))) (given «has_translation» (now (translation .entry)))) ⌝ }
 {
     let named = read_name(has_name, name, refs, subs, trans, pool, own, begin());

@@ -1,7 +1,7 @@
 -- A buffer of a wrong size, or the reading and its end (`Finished`).
 use mathlib.Core.Path.{refl, _∙_}
 use lib.ListN.{replicate}
-use Rattle.parse.specs.State.{Fresh}
+use Rattle.parse.specs.State.{Lengths}
 use Rattle.model.specs.Reading.{fromHeaderLines}
 use Rattle.model.specs.Outcome.{readInto}
 use Rattle.parse.proofs.Finished.{nothing-ready, header-read, finished, wrong-size}
@@ -10,7 +10,7 @@ use Rattle.parse.proofs.header.from_header_lines.Statement.{statement}
 use Rattle.parse.proofs.header.from_header_lines.Tie as tie
 
 -- the tables and the own name's buffer, of their lengths
-fresh : (p : tie.After-pool) → Fresh (p .before .before .before .name-table .result) (p .before .before .pair-table .result) (p .before .pair-table2 .result) (p .pool .result) (replicate 256 0)
+fresh : (p : tie.After-pool) → Lengths (p .before .before .before .name-table .result) (p .before .before .pair-table .result) (p .before .pair-table2 .result) (p .pool .result) (replicate 256 0)
 fresh p = record {
   refs = p .before .before .before .name-table .ensures;
   subs = p .before .before .pair-table .ensures;

@@ -80,27 +80,27 @@ refusal-requires c κs = search needs
 same-length : tie.Need-same-length Inv-loop μ-loop
 same-length c =
     let t = taken (c .before .before .before .before) in
-    t .take-field .kept .0 ∙ looped t .loop .inv .ready .held .refs ∙ sym (start (looped t) .pre .held .refs)
+    t .take-field .kept .0 ∙ looped t .loop .inv .ready .held .lengths .refs ∙ sym (start (looped t) .pre .held .lengths .refs)
 
 same-length-2 : tie.Need-same-length-2 Inv-loop μ-loop
 same-length-2 c =
     let t = taken (c .before .before .before .before) in
-    t .take-field .kept .1 .0 ∙ looped t .loop .inv .ready .held .subs ∙ sym (start (looped t) .pre .held .subs)
+    t .take-field .kept .1 .0 ∙ looped t .loop .inv .ready .held .lengths .subs ∙ sym (start (looped t) .pre .held .lengths .subs)
 
 same-length-3 : tie.Need-same-length-3 Inv-loop μ-loop
 same-length-3 c =
     let t = taken (c .before .before .before .before) in
-    t .take-field .kept .1 .1 .0 ∙ looped t .loop .inv .ready .held .trans ∙ sym (start (looped t) .pre .held .trans)
+    t .take-field .kept .1 .1 .0 ∙ looped t .loop .inv .ready .held .lengths .trans ∙ sym (start (looped t) .pre .held .lengths .trans)
 
 same-length-4 : tie.Need-same-length-4 Inv-loop μ-loop
 same-length-4 c =
     let t = taken (c .before .before .before .before) in
-    t .take-field .kept .1 .1 .1 .0 ∙ looped t .loop .inv .ready .held .pool ∙ sym (start (looped t) .pre .held .pool)
+    t .take-field .kept .1 .1 .1 .0 ∙ looped t .loop .inv .ready .held .lengths .pool ∙ sym (start (looped t) .pre .held .lengths .pool)
 
 same-length-5 : tie.Need-same-length-5 Inv-loop μ-loop
 same-length-5 c =
     let t = taken (c .before .before .before .before) in
-    t .take-field .kept .1 .1 .1 .1 .0 ∙ looped t .loop .inv .ready .held .buffer ∙ sym (start (looped t) .pre .held .buffer)
+    t .take-field .kept .1 .1 .1 .1 .0 ∙ looped t .loop .inv .ready .held .lengths .own ∙ sym (start (looped t) .pre .held .lengths .own)
 
 returns : tie.Need-returns Inv-loop μ-loop
 returns c =
@@ -134,27 +134,27 @@ loop-again c =
 same-length-6 : tie.Need-same-length-6 Inv-loop μ-loop
 same-length-6 c =
     let l = c .before .before in
-    l .loop .inv .ready .held .refs ∙ sym (start l .pre .held .refs)
+    l .loop .inv .ready .held .lengths .refs ∙ sym (start l .pre .held .lengths .refs)
 
 same-length-7 : tie.Need-same-length-7 Inv-loop μ-loop
 same-length-7 c =
     let l = c .before .before in
-    l .loop .inv .ready .held .subs ∙ sym (start l .pre .held .subs)
+    l .loop .inv .ready .held .lengths .subs ∙ sym (start l .pre .held .lengths .subs)
 
 same-length-8 : tie.Need-same-length-8 Inv-loop μ-loop
 same-length-8 c =
     let l = c .before .before in
-    l .loop .inv .ready .held .trans ∙ sym (start l .pre .held .trans)
+    l .loop .inv .ready .held .lengths .trans ∙ sym (start l .pre .held .lengths .trans)
 
 same-length-9 : tie.Need-same-length-9 Inv-loop μ-loop
 same-length-9 c =
     let l = c .before .before in
-    l .loop .inv .ready .held .pool ∙ sym (start l .pre .held .pool)
+    l .loop .inv .ready .held .lengths .pool ∙ sym (start l .pre .held .lengths .pool)
 
 same-length-10 : tie.Need-same-length-10 Inv-loop μ-loop
 same-length-10 c =
     let l = c .before .before in
-    l .loop .inv .ready .held .buffer ∙ sym (start l .pre .held .buffer)
+    l .loop .inv .ready .held .lengths .own ∙ sym (start l .pre .held .lengths .own)
 
 returns-2 : tie.Need-returns-2 Inv-loop μ-loop
 returns-2 c =
