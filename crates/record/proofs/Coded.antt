@@ -1,5 +1,5 @@
--- Between a graph name and its bytes: the distinct names, ascending, and places in them. Each valid graph name has one such form,
--- and each such form that fits is that of its meaning.
+-- The form between a graph name and its bytes: each valid graph name has one such form, and each such form that fits is that of
+-- its meaning.
 use mathlib.Core.Path.{_≡_, refl, sym, ap, _∙_}
 use mathlib.Core.Logic.{_⊎_, inl, inr, ⊎-elim}
 use mathlib.Core.Bool.{true, false}
@@ -17,16 +17,11 @@ use Rattle.text.proofs.Order.{bytes-order}
 use Rattle.text.proofs.Ascending.{ascends-true, insertAll-unique}
 use Rattle.text.proofs.Places.{getD-member, member-getD, member-map, map-member}
 use Rattle.record.specs.Test.{pairsOk, isUsed, every, Under}
-use Rattle.record.proofs.Places.{nameIn, pairIn, placesIn, flat, place-found, place-of-name, pairNames-in, flat-places, under-member, under-all, ascends-in, places-in, in-places}
+use Rattle.record.specs.Coded.{Coded, nameIn, pairIn, ownIn, meaning}
+use Rattle.record.proofs.Places.{placesIn, flat, place-found, place-of-name, pairNames-in, flat-places, under-member, under-all, ascends-in, places-in, in-places}
 use Rattle.record.proofs.TestLaws.{pairsOk-true, every-true, isUsed-true, ownPlaces, usedPlaces}
 use Rattle.record.proofs.Names.{allNames, names-ascending, names-members, own-listed, pair-listed}
 use Rattle.record.proofs.Sizes.{judge-sizes, sizes-judge}
-
-pub record Coded : Type 0 where
-  pub names : List Bytes
-  pub own : ℕ
-  pub subgraph : List (ℕ × ℕ)
-  pub translation : List (ℕ × ℕ)
 
 abbrev codedBy : GraphName → List Bytes → Coded
 codedBy g ns = record {
@@ -38,17 +33,6 @@ codedBy g ns = record {
 
 abbrev pub coded : GraphName → Coded
 coded g = codedBy g (names g)
-
-abbrev pub ownIn : List Bytes → ℕ → Option Bytes
-ownIn ns zero = none
-ownIn ns (suc i) = some (nameIn ns i)
-
-abbrev pub meaning : Coded → GraphName
-meaning c = record {
-  name = ownIn (c .names) (c .own);
-  subgraph = map (pairIn (c .names)) (c .subgraph);
-  translation = map (pairIn (c .names)) (c .translation);
-}
 
 -- what the test of a buffer asks of it
 pub record Fits (c : Coded) : Type 0 where

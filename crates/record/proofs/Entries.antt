@@ -13,12 +13,7 @@ use Rattle.model.specs.Record.{anyLong, bodies}
 use Rattle.model.specs.Layout.{entries}
 use Rattle.text.proofs.Tests.{both-true, either-false}
 use Rattle.record.specs.Test.{bodyEnd, cut, Under}
-use Rattle.record.proofs.Words.{lePairs}
-
--- start and length of each name as numbers, the first at `start`
-unfoldable pub spans : ℕ → List Bytes → List (ℕ × ℕ)
-spans start [] = []
-spans start (n ∷ ns) = (start, length n) ∷ spans (start + length n) ns
+use Rattle.record.specs.Coded.{lePairs, spans}
 
 pub lePairs-spans : (start : ℕ) (ns : List Bytes) → lePairs (spans start ns) ≡ entries start ns
 unfolding lePairs spans entries

@@ -19,7 +19,8 @@ use Rattle.record.specs.Test.{isRecord}
 use Rattle.model.specs.Questions.{isSome}
 use Rattle.record.proofs.Words.{AllBytes}
 use Rattle.record.proofs.Held.{Held, held, held-record}
-use Rattle.record.proofs.Coded.{coded, meaning, meaning-coded, valid-fits, coded-meaning, meaning-valid}
+use Rattle.record.specs.Coded.{meaning}
+use Rattle.record.proofs.Coded.{coded, meaning-coded, valid-fits, coded-meaning, meaning-valid}
 use Rattle.record.proofs.Write.{write, read, encode-write}
 use Rattle.record.proofs.ReadWrite.{read-write, write-held, held-fits, write-read}
 use Rattle.record.proofs.Shown.{shown-meaning}

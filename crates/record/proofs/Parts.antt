@@ -17,7 +17,8 @@ use Rattle.model.specs.Layout.{ownAt, decode}
 use Rattle.model.specs.Questions.{refuses, gives, faultOf, faultOfBoth, asked, askedBoth, Part, PairParts, partOf, mapped, pairParts, pairsOf}
 use Rattle.record.specs.Test.{entriesOf, bodiesAt, pairCount, tableAt}
 use Rattle.record.proofs.Words.{getD-pairsAt}
-use Rattle.record.proofs.Entries.{spans, cut-holds}
+use Rattle.record.specs.Coded.{spans}
+use Rattle.record.proofs.Entries.{cut-holds}
 use Rattle.record.proofs.Places.{place-of-name}
 use Rattle.record.proofs.Names.{names-ascending}
 use Rattle.record.proofs.Laws.{decode-held}

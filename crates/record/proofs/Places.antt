@@ -5,7 +5,7 @@ use mathlib.Core.Bool.{Bool, true, false, cond, false≢true}
 use mathlib.Core.List.{List, [], _∷_, map, List·Memᴰ, List·Memᴰ·head, List·Memᴰ·tail, List·Memᴰ·not-nil, List·Memᴰ·cases-cons}
 use Prim.Native.Nat.{ℕ, zero, suc, _<_}
 use native.Mathlib.Omega.{arith}
-use lib.ListN.{length, getD}
+use lib.ListN.{length}
 use Rattle.model.specs.declared.Order.{Order}
 use Rattle.model.specs.Bytes.{Bytes, thenBy, compareNumbers, compareBytes, sameBytes}
 use Rattle.model.specs.Record.{Pair, comparePairs, ascends, pairNames}
@@ -15,13 +15,7 @@ use Rattle.text.proofs.Order.{bytes-order, sameBytes-refl, sameBytes-true, same
 use Rattle.text.proofs.Ascending.{ascending-tail, ascending-below, less-irrefl}
 use Rattle.text.proofs.Places.{getD-member, ascends-map, ascending-places}
 use Rattle.record.specs.Test.{Under}
-use Rattle.record.proofs.Words.{lePairs}
-
-abbrev pub nameIn : List Bytes → ℕ → Bytes
-nameIn ns i = getD ns i []
-
-abbrev pub pairIn : List Bytes → ℕ × ℕ → Pair
-pairIn ns p = record { from = nameIn ns (p .0); to = nameIn ns (p .1) }
+use Rattle.record.specs.Coded.{nameIn, pairIn, lePairs}
 
 abbrev pub placesIn : List Bytes → Pair → ℕ × ℕ
 placesIn ns p = (placeOf (p .from) ns, placeOf (p .to) ns)

@@ -13,9 +13,10 @@ use Rattle.model.specs.Record.{bodies}
 use Rattle.record.specs.Test.{pairsAt, pairsOk, bodyEnd, entriesOf, subgraphAt, translationAt, subgraphOf, translationOf, bodiesAt, namesOf, Under}
 use Rattle.record.proofs.Words.{AllBytes, under-weaken, length-pairsAt, lePairs-pairsAt}
 use Rattle.record.proofs.Held.{Held}
-use Rattle.record.proofs.Entries.{spans, length-spans, length-cut, cut-spans, bodyEnd-spans, under-spans, Cut, cut-holds}
+use Rattle.record.proofs.Entries.{length-spans, length-cut, cut-spans, bodyEnd-spans, under-spans, Cut, cut-holds}
 use Rattle.record.proofs.TestLaws.{pairsOk-true, zeros-replicate, zeros-only}
-use Rattle.record.proofs.Coded.{Coded, Fits}
+use Rattle.record.specs.Coded.{Coded, spans}
+use Rattle.record.proofs.Coded.{Fits}
 use Rattle.record.proofs.Write.{parts, size, ending, write, read, length-parts, Parts, parts-read}
 
 -- ------------------------------------------------------------------ reading what was written

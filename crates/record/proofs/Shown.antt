@@ -13,9 +13,8 @@ use Rattle.record.specs.Test.{pairsAt, entriesOf, subgraphAt, translatio
 use Rattle.record.proofs.Words.{length-pairsAt, pairsAt-step, getD-pairsAt}
 use Rattle.record.proofs.Held.{Held}
 use Rattle.record.proofs.Entries.{getD-cut}
-use Rattle.record.proofs.Places.{nameIn, pairIn}
+use Rattle.record.specs.Coded.{nameIn, pairIn, ownIn, meaning}
 use Rattle.record.proofs.TestLaws.{pairsOk-true}
-use Rattle.record.proofs.Coded.{ownIn, meaning}
 use Rattle.record.proofs.Write.{read}
 
 module _ (b : Bytes) (h : Held b) where

@@ -7,13 +7,9 @@ use native.Mathlib.Nat.{add-zero}
 use lib.ListN.{length, take, drop, getD}
 use lib.Seq.{drop-drop, getD-drop}
 use Rattle.model.specs.Bytes.{Bytes}
-use Rattle.model.specs.Numbers.{le16, number}
+use Rattle.model.specs.Numbers.{number}
 use Rattle.record.specs.Test.{pairsAt, Under}
-
--- the bytes of a list of pairs
-unfoldable pub lePairs : List (ℕ × ℕ) → Bytes
-lePairs [] = []
-lePairs (p ∷ ps) = le16 (p .0) ++ (le16 (p .1) ++ lePairs ps)
+use Rattle.record.specs.Coded.{lePairs}
 
 -- every entry is a byte
 abbrev pub AllBytes : Bytes → Type 0

@@ -10,10 +10,11 @@ use Rattle.model.specs.Numbers.{le16, number}
 use Rattle.model.specs.Record.{GraphName, names, bodies}
 use Rattle.model.specs.Layout.{entries, pairPlaces, ownPlace, contents, encode}
 use Rattle.record.specs.Test.{entriesOf, subgraphOf, translationOf, bodiesAt, namesOf, Under}
-use Rattle.record.proofs.Words.{lePairs, length-lePairs, pairsAt-lePairs}
-use Rattle.record.proofs.Entries.{spans, lePairs-spans, length-spans}
+use Rattle.record.proofs.Words.{length-lePairs, pairsAt-lePairs}
+use Rattle.record.proofs.Entries.{lePairs-spans, length-spans}
 use Rattle.record.proofs.Places.{placesIn, lePairs-places}
-use Rattle.record.proofs.Coded.{Coded, coded}
+use Rattle.record.specs.Coded.{Coded, lePairs, spans}
+use Rattle.record.proofs.Coded.{coded}
 
 -- a buffer of given parts
 unfoldable pub parts : ℕ → List (ℕ × ℕ) → List (ℕ × ℕ) → List (ℕ × ℕ) → Bytes → Bytes

@@ -1,2 +1,3 @@
 pub mod Test
+pub mod Coded
 pub mod Answers

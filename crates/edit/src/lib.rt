@@ -1,0 +1,16 @@
+// Making and changing records: the working tables that reading, adding and merging share, and the operations on record buffers.
+mod judging;
+mod sorted;
+mod storing;
+mod tables;
+
+pub use judging::judged;
+pub use storing::clear;
+pub use storing::store;
+pub use tables::Placed;
+pub use tables::Sizes;
+pub use tables::name_table;
+pub use tables::pair_table;
+pub use tables::pool;
+pub use tables::put_name;
+pub use tables::put_pair;

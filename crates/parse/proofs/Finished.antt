@@ -1,0 +1,101 @@
+-- A reading's start and its end: the tables with nothing taken, the empty record, and what is answered.
+use mathlib.Core.Path.{_≡_, refl, sym, ap, _∙_}
+use mathlib.Core.List.{List, append-nil, List·Memᴰ·not-nil}
+use Prim.Native.Nat.{ℕ, _+_, _-_}
+use native.Mathlib.Omega.{arith}
+use lib.ListN.{length, replicate, drop-of-length-le, length-replicate}
+use borrow.Author.Tests.{eq-eqb, ne-eqb}
+use Rattle.model.specs.Bytes.{Bytes, put}
+use Rattle.model.specs.Record.{empty, insertAll, names, judge}
+use Rattle.model.specs.Layout.{encode}
+use Rattle.model.specs.Statements.{Ascending}
+use Rattle.model.specs.Reading.{fromHeaderLines, Refusal, Reading}
+use Rattle.model.specs.Outcome.{outcomeOf, readingInto, refusalOf, refusalInto}
+use Rattle.record.specs.Test.{Under}
+use Rattle.edit.specs.Tables.{tables, Good}
+use Rattle.edit.specs.declared.tables.Sizes.{Sizes}
+use Rattle.edit.specs.Tables.{Tables}
+use Rattle.parse.specs.declared.taking.State.{State}
+use Rattle.parse.specs.declared.reading.Ended.{Ended}
+use Rattle.parse.specs.declared.reading.Ended.the-variants.{Done, Refused}
+use Rattle.parse.specs.declared.finish.Answer.the-variants.{Done as Answered, Refused as Denied}
+use Rattle.parse.specs.Rest.{restOf}
+use Rattle.parse.specs.declared.field.Source.the-variants.{Header}
+use Rattle.parse.proofs.Rest.{header-start}
+use Rattle.parse.specs.Answers.{refusalIn}
+use Rattle.parse.specs.State.{firstStop, readingOf, Lengths, nothingTaken, graphNow, Ready}
+
+-- ------------------------------------------------------------------ the start
+
+module _ (refs subs trans : List ℕ) (pool own : Bytes) (f : Lengths refs subs trans pool own) where
+  nothing-good : Good (tables refs subs trans pool (nothingTaken .sizes))
+  unfolding names insertAll Ascending Under
+  nothing-good = record {
+    kept = record {
+      order = tt;
+      short = refl;
+      within = λ r m. absurd (List·Memᴰ·not-nil m);
+      total = refl;
+      count = omega arith;
+      room = omega arith;
+      few = omega (arith, f .refs);
+      small = omega (arith, f .pool);
+      subgraph = record { order = tt; under = tt; within = omega arith };
+      translation = record { order = tt; under = tt; within = omega arith };
+    };
+    used = refl;
+  }
+
+  pub nothing-ready : Ready (tables refs subs trans pool (nothingTaken .sizes)) own 0
+  unfolding judge names insertAll
+  nothing-ready = record {
+    held = record {
+      good = nothing-good;
+      short = omega arith;
+      lengths = f;
+    };
+    sizes = refl;
+  }
+
+  -- it shows the empty graph name
+  pub nothing-shown : (s : State) → s ≡ nothingTaken → graphNow (tables refs subs trans pool (s .sizes)) own (s .own) ≡ empty
+  nothing-shown s e = rw e
+
+  -- header lines read from there
+  pub header-read : (t : Bytes) (s : State) → s ≡ nothingTaken
+      → restOf Header t 0 (firstStop Header t) 0 (graphNow (tables refs subs trans pool (s .sizes)) own (s .own)) ≡ fromHeaderLines t
+  header-read t s e = rw e (sym (header-start t))
+
+-- ------------------------------------------------------------------ the end
+
+put-whole : (buffer x : Bytes) → length x ≡ length buffer → put buffer 0 x ≡ x
+unfolding put
+put-whole buffer x e = rw (drop-of-length-le buffer {i = 0 + length x} (omega arith)) (append-nil x)
+
+-- a buffer cleared from its start is the empty record
+cleared : (buffer : Bytes) → length buffer ≡ 32768 → put buffer 0 (replicate (length buffer - 0) 0) ≡ replicate 32768 0
+cleared buffer e =
+    let z : length buffer - 0 ≡ 32768 = omega arith in
+    put-whole buffer (replicate (length buffer - 0) 0) (length-replicate {A = ℕ} (length buffer - 0) 0 ∙ omega arith)
+    ∙ ap (λ (n : ℕ). replicate {A = ℕ} n 0) z
+
+-- a reading into a buffer, by the buffer's size
+module _ (buffer : Bytes) (r : Refusal) (m : Reading) where
+  pub finished : length buffer ≡ 32768 → (n : Reading) → n ≡ m → (b : Bytes) → (r ≡ refusalOf n) × (b ≡ outcomeOf n .buffer)
+      → (r ≡ refusalInto m buffer) × (b ≡ readingInto m buffer .buffer)
+  finished e n d b f = rw (eq-eqb (length buffer) 32768 e, ← d) f
+
+  pub wrong-size : (length buffer ≡ 32768 → ⊥) → r ≡ record { number = 15; line = 0; start = 0; size = 0 }
+      → (r ≡ refusalInto m buffer) × (buffer ≡ readingInto m buffer .buffer)
+  wrong-size e d = rw (ne-eqb (length buffer) 32768 e) (d, refl)
+
+-- what the end of a reading answers and leaves in the buffer
+module _ (at : Sizes → Tables) (own : Bytes) (r : Ended) (buffer b : Bytes) where
+  pub done-ended : (s : State) → r ≡ Done s → b ≡ encode (graphNow (at (s .sizes)) own (s .own))
+      → (refusalIn Answered ≡ refusalOf (readingOf at own r)) × (b ≡ outcomeOf (readingOf at own r) .buffer)
+  done-ended s e d = rw e (refl, d)
+
+  pub refused-ended : (number line start size : ℕ) → r ≡ Refused number line start size → length buffer ≡ 32768
+      → b ≡ put buffer 0 (replicate (length buffer - 0) 0)
+      → (refusalIn (Denied number line start size) ≡ refusalOf (readingOf at own r)) × (b ≡ outcomeOf (readingOf at own r) .buffer)
+  refused-ended number line start size e l d = rw e (refl, d ∙ cleared buffer l)

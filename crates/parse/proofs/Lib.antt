@@ -1,0 +1,9 @@
+pub mod Classified
+pub mod Parts
+pub mod Rest
+pub mod Steps
+pub mod Progress
+pub mod Ongoing
+pub mod Stored
+pub mod Finished
+pub mod TagValues

@@ -1,0 +1,23 @@
+-- By the source.
+
+use borrow.Author.Needs.{needs}
+use Rattle.parse.proofs.reading.first_stop.Statement.{statement}
+use Rattle.parse.proofs.reading.first_stop.Tie as tie
+
+enum-told : tie.Need-enum-told
+enum-told c = search needs
+
+enum-told-2 : tie.Need-enum-told-2
+enum-told-2 c = search needs
+
+add-result : tie.Need-add-result
+add-result c = search needs
+
+returns : tie.Need-returns
+returns c = search needs
+
+returns-2 : tie.Need-returns-2
+returns-2 c = rw (c .enum-told2 .given .1)
+
+pub first-stop-spec : {M : Type 1} → statement M
+first-stop-spec = tie.close (tie.spec enum-told enum-told-2 add-result returns returns-2)

@@ -1,0 +1,41 @@
+-- A long name, or the name copied and judged.
+use mathlib.Core.Path.{_∙_}
+use lib.ListN.{length}
+use borrow.Author.Tests.{lt-ltb}
+use Rattle.edit.specs.Tables.{namesIn}
+use Rattle.parse.proofs.Progress.{name-taken}
+use native.Mathlib.Omega.{arith}
+use borrow.Author.Needs.{needs}
+use Rattle.parse.proofs.taking.take_name.Statement.{statement}
+use Rattle.parse.proofs.taking.take_name.Tie as tie
+
+returns : tie.Need-returns
+returns c =
+    let x = c .before .before .before .before .before .args .name .now in
+    (rw (lt-ltb 256 (length x) (c .if1 .taken)), λ h. absurd (omega (arith, c .if1 .taken)))
+
+copy-requires : tie.Need-copy-requires
+copy-requires c κs = search needs
+
+add-t7 : tie.Need-add-t7
+add-t7 c = search needs
+
+judged-state-requires : tie.Need-judged-state-requires
+judged-state-requires c κs = search needs
+
+same-length : tie.Need-same-length
+same-length c = search needs
+
+returns-2 : tie.Need-returns-2
+returns-2 c =
+    let k = c .before .before .before .before in
+    let a = k .before .before .before .before .before .before .before .args in (
+      c .judged-state .ensures
+          ∙ name-taken (namesIn (a .pool .now) (a .sizes .names) (a .refs .now)) (a .sizes) (a .own .now) (k .copy .last .0) (a .name .now) (k .copy .result)
+          (k .copy .ensures .0) (k .copy .ensures .1) (k .before .before .if1 .left),
+      λ h. k .copy .ensures .1,
+    )
+
+pub take-name-spec : {M : Type 1} → statement M
+take-name-spec =
+    tie.close (tie.spec returns copy-requires add-t7 judged-state-requires same-length returns-2)

@@ -1,0 +1,104 @@
+-- The state of a reading: the working tables with the own name so far, which is kept apart, and the graph name that they come to. Assumes nothing.
+use mathlib.Core.Path.{_≡_}
+use mathlib.Core.Bool.{cond}
+use mathlib.Core.List.{List}
+use mathlib.Core.Option.{Option, some, none}
+use Prim.Native.Nat.{ℕ, zero, suc, _+_, _≤_}
+use lib.ListN.{length, take}
+use lib.Dec.{eqb, ltb}
+use Rattle.model.specs.Bytes.{Bytes}
+use Rattle.model.specs.Record.{GraphName, judge}
+use Rattle.model.specs.Reading.{Taken, took, wrong, Reading, done, refused}
+use Rattle.edit.specs.declared.tables.Sizes.{Sizes}
+use Rattle.edit.specs.Tables.{Tables, graphIn, Good}
+use Rattle.edit.specs.Judging.{owned, namesAnd, sizeFault}
+use Rattle.parse.specs.declared.field.Source.{Source}
+use Rattle.parse.specs.declared.field.Source.the-variants.{Header, Tag}
+use Rattle.parse.specs.declared.reading.Ended.{Ended}
+use Rattle.parse.specs.declared.reading.Ended.the-variants.{Done, Refused}
+use Rattle.parse.specs.declared.taking.State.{State}
+use Rattle.parse.specs.declared.taking.FieldTaken.{FieldTaken}
+use Rattle.parse.specs.declared.taking.FieldTaken.the-variants.{Took, Wrong}
+
+-- the own name by its number, which is its length and one more, or 0 for none
+abbrev pub ownOf : Bytes → ℕ → Option Bytes
+ownOf own zero = none
+ownOf own (suc k) = some (take k own)
+
+-- the graph name so far
+abbrev pub graphNow : Tables → Bytes → ℕ → GraphName
+graphNow t own n = owned (ownOf own n) (graphIn t)
+
+-- the lengths of the tables and of the buffer for the own name
+pub record Lengths (rs ss ts : List ℕ) (bytes name : Bytes) : Type 0 where
+  pub refs : length rs ≡ 1028
+  pub subs : length ss ≡ 2050
+  pub trans : length ts ≡ 2050
+  pub pool : length bytes ≡ 45808
+  pub own : length name ≡ 256
+
+-- nothing taken yet
+abbrev pub nothingTaken : State
+nothingTaken = record { sizes = record { names = 0; bytes = 0; subgraph = 0; translation = 0 }; own = 0 }
+
+-- the number that names with an own name, and as many pairs as the sizes say, come to
+abbrev pub judgeNames : Option Bytes → List Bytes → Sizes → ℕ
+judgeNames own ns sizes = sizeFault (namesAnd own ns) (sizes .subgraph) (sizes .translation)
+
+-- a state that is judged by a number
+abbrev pub judgedAs : ℕ → State → FieldTaken
+judgedAs number state = cond (eqb number 0) (Took state) (Wrong number)
+
+-- an own name taken
+abbrev pub nameTaken : List Bytes → Sizes → Bytes → FieldTaken
+nameTaken ns sizes x = cond (ltb 256 (length x)) (Wrong 11) (judgedAs (judgeNames (some x) ns sizes) (record { sizes = sizes; own = length x + 1 }))
+
+-- the tables are good, and the own name is within its buffer
+pub record Held (t : Tables) (own : Bytes) (n : ℕ) : Type 0 where
+  pub good : Good t
+  pub short : n ≤ 257
+  pub lengths : Lengths (t .refs) (t .subs) (t .trans) (t .pool) own
+
+-- and the sizes are within document 01's: so it is between two fields
+pub record Ready (t : Tables) (own : Bytes) (n : ℕ) : Type 0 where
+  pub held : Held t own n
+  pub sizes : judge (graphNow t own n) ≡ 0
+
+-- what a field taken means, where `at` gives the tables for their sizes
+abbrev pub takenOf : (Sizes → Tables) → Bytes → FieldTaken → Taken
+takenOf at own (Took s) = took (graphNow (at (s .sizes)) own (s .own))
+takenOf at own (Wrong n) = wrong n
+
+abbrev pub ReadyAfter : (Sizes → Tables) → Bytes → FieldTaken → Type 0
+ReadyAfter at own (Took s) = Ready (at (s .sizes)) own (s .own)
+ReadyAfter at own (Wrong n) = Unit {0}
+
+-- the field was taken as m, and the reading can go on if it does
+pub record TakenAs (at : Sizes → Tables) (own : Bytes) (r : FieldTaken) (m : Taken) : Type 0 where
+  pub same : takenOf at own r ≡ m
+  pub ready : ReadyAfter at own r
+
+-- ------------------------------------------------------------------ a whole reading
+
+-- where the first part stops: header lines begin with a line, a tag with a relation
+abbrev pub firstStop : Source → Bytes → ℕ
+firstStop Header t = 0
+firstStop (Tag k) t = length t + 1
+
+-- a refusal: the quoted part goes with the numbers up to 10
+abbrev pub refusedAs : ℕ → ℕ → ℕ → ℕ → Ended
+refusedAs number line start size = cond (ltb 10 number) (Refused number line 0 0) (Refused number line start size)
+
+-- what the end of a reading means
+abbrev pub readingOf : (Sizes → Tables) → Bytes → Ended → Reading
+readingOf at own (Done s) = done (graphNow (at (s .sizes)) own (s .own))
+readingOf at own (Refused number line start size) = refused (record { number = number; line = line; start = start; size = size })
+
+abbrev pub ReadyAtEnd : (Sizes → Tables) → Bytes → Ended → Type 0
+ReadyAtEnd at own (Done s) = Ready (at (s .sizes)) own (s .own)
+ReadyAtEnd at own (Refused number line start size) = Unit {0}
+
+-- the reading ended as m
+pub record EndedAs (at : Sizes → Tables) (own : Bytes) (r : Ended) (m : Reading) : Type 0 where
+  pub same : readingOf at own r ≡ m
+  pub ready : ReadyAtEnd at own r

@@ -1,0 +1,48 @@
+// Reading header lines.
+use crate::field::Source;
+use crate::finish::Answer;
+use crate::finish::finish;
+use crate::reading::read_text;
+use crate::taking::begin;
+ghost use mathlib.Core.Path.{_≡_};
+ghost use Rattle.model.specs.Reading.{fromHeaderLines};
+ghost use Rattle.model.specs.Outcome.{readInto, refusalInto};
+ghost use Rattle.parse.specs.Answers.{refusalIn};
+
+// Reads header lines into a record buffer.
+pub fn from_header_lines(t: &[u8], buffer: &mut [u8]) -> Answer
+    ensures { λ r. ⌜ (refusalIn r ≡ refusalInto (fromHeaderLines (now (t .entry))) (now (buffer .entry))) × (now (buffer .exit) ≡ readInto (now (t .entry)) (now (buffer .entry)) .buffer) ⌝ }
+{
+    if buffer.len() != 32768 {
+        return Answer::Refused {
+            number: 15,
+            line: 0,
+            start: 0,
+            size: 0,
+        };
+    }
+    let mut refs = edit::name_table();
+    let mut subs = edit::pair_table();
+    let mut trans = edit::pair_table();
+    let mut pool = edit::pool();
+    let mut own = [0u8; 256];
+    let ended = read_text(
+        Source::Header,
+        t,
+        &mut refs,
+        &mut subs,
+        &mut trans,
+        &mut pool,
+        &mut own,
+        begin(),
+    );
+    finish(
+        &mut refs,
+        &mut subs,
+        &mut trans,
+        &mut pool,
+        &own,
+        ended,
+        buffer,
+    )
+}

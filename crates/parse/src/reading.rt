@@ -1,0 +1,102 @@
+// A text read field by field into the working tables.
+use crate::field::Source;
+use crate::next::Tally;
+use crate::next::next;
+use crate::taking::FieldTaken;
+use crate::taking::State;
+use crate::taking::take_field;
+ghost use mathlib.Core.Path.{_≡_};
+ghost use Rattle.edit.specs.Tables.{tables};
+ghost use Rattle.parse.specs.Rest.{restOf};
+ghost use Rattle.parse.specs.State.{graphNow, Ready, firstStop, refusedAs, EndedAs};
+
+// How a reading ends: with what it has then, or with a refusal's number, line and quoted part.
+pub(crate) enum Ended {
+    Done(State),
+    Refused {
+        number: usize,
+        line: usize,
+        start: usize,
+        size: usize,
+    },
+}
+
+// A refusal: numbers over 10 quote nothing.
+fn refusal(number: usize, line: usize, start: usize, size: usize) -> Ended
+    ensures { λ r. ⌜ r ≡ refusedAs number line start size ⌝ }
+{
+    if 10 < number {
+        return Ended::Refused {
+            number,
+            line,
+            start: 0,
+            size: 0,
+        };
+    }
+    Ended::Refused {
+        number,
+        line,
+        start,
+        size,
+    }
+}
+
+// Where the first part of a text stops: header lines begin with a line, a tag with a relation.
+fn first_stop(source: Source, t: &[u8]) -> usize
+    ensures { λ r. ⌜ r ≡ firstStop source (now (t .entry)) ⌝ }
+{
+    match source {
+        Source::Header => 0,
+        Source::Tag(_) => t.len() + 1,
+    }
+}
+
+// Reads all of t into the tables and the own name.
+pub(crate) fn read_text(
+    source: Source,
+    t: &[u8],
+    refs: &mut [u32],
+    subs: &mut [u32],
+    trans: &mut [u32],
+    pool: &mut [u8],
+    own: &mut [u8],
+    begun: State,
+) -> Ended
+    requires { ⌜ Ready (tables (now refs) (now subs) (now trans) (now pool) (begun .sizes)) (now own) (begun .own) ⌝ }
+    ensures { λ r. ⌜ EndedAs (tables (now (refs .exit)) (now (subs .exit)) (now (trans .exit)) (now (pool .exit))) (now (own .exit)) r (restOf source (now (t .entry)) 0 (firstStop source (now (t .entry))) 0 (graphNow (tables (now (refs .entry)) (now (subs .entry)) (now (trans .entry)) (now (pool .entry)) (begun .sizes)) (now (own .entry)) (begun .own))) ⌝ }
+{
+    let mut state = begun;
+    let mut stop = first_stop(source, t);
+    let mut at = 0;
+    let mut tally = Tally {
+        lines: 0,
+        fields: 0,
+    };
+    while at < stop || at < t.len() {
+        let field = next(source, t, stop, at, tally);
+        let start = field.start;
+        let size = field.size;
+        let content = field.content;
+        tally = field.tally;
+        match take_field(
+            refs,
+            subs,
+            trans,
+            pool,
+            own,
+            state,
+            text::part(t, start, size),
+            content,
+        ) {
+            FieldTaken::Wrong(number) => {
+                return refusal(number, tally.lines, start, size);
+            }
+            FieldTaken::Took(s) => {
+                state = s;
+                stop = field.stop;
+                at = field.at;
+            }
+        }
+    }
+    Ended::Done(state)
+}

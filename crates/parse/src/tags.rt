@@ -1,0 +1,181 @@
+// Reading the values of the three tags: name, subgraph, translation.
+use crate::field::Content;
+use crate::field::Source;
+use crate::finish::Answer;
+use crate::finish::finish;
+use crate::reading::Ended;
+use crate::reading::read_text;
+use crate::taking::FieldTaken;
+use crate::taking::State;
+use crate::taking::begin;
+use crate::taking::take_field;
+use model::Kind;
+ghost use mathlib.Core.Path.{_≡_};
+ghost use Rattle.model.specs.Reading.{afterReading, nameValue, tagValue, fromTags};
+ghost use Rattle.model.specs.Outcome.{readTagsInto, refusalInto};
+ghost use Rattle.edit.specs.Tables.{tables};
+ghost use Rattle.parse.specs.Fields.{addTo, tagNumber};
+ghost use Rattle.parse.specs.State.{Lengths, graphNow, Ready, readingOf, ReadyAtEnd, EndedAs};
+ghost use Rattle.parse.specs.Answers.{refusalIn, given};
+
+// The name's tag, if it is there.
+fn read_name(
+    there: bool,
+    name: &[u8],
+    refs: &mut [u32],
+    subs: &mut [u32],
+    trans: &mut [u32],
+    pool: &mut [u8],
+    own: &mut [u8],
+    begun: State,
+) -> Ended
+    requires { ⌜ Ready (tables (now refs) (now subs) (now trans) (now pool) (begun .sizes)) (now own) (begun .own) ⌝ }
+    ensures { λ r. ⌜ EndedAs (tables (now (refs .exit)) (now (subs .exit)) (now (trans .exit)) (now (pool .exit))) (now (own .exit)) r (nameValue (given there (now (name .entry))) (graphNow (tables (now (refs .entry)) (now (subs .entry)) (now (trans .entry)) (now (pool .entry)) (begun .sizes)) (now (own .entry)) (begun .own))) ⌝ }
+{
+    if !there {
+        return Ended::Done(begun);
+    }
+    match take_field(refs, subs, trans, pool, own, begun, name, Content::Name(0)) {
+        FieldTaken::Wrong(number) => Ended::Refused {
+            number,
+            line: 0,
+            start: 0,
+            size: 0,
+        },
+        FieldTaken::Took(state) => Ended::Done(state),
+    }
+}
+
+// The tag of a kind of relation, if it is there, after a reading that has ended.
+fn read_tag(
+    kind: Kind,
+    there: bool,
+    value: &[u8],
+    refs: &mut [u32],
+    subs: &mut [u32],
+    trans: &mut [u32],
+    pool: &mut [u8],
+    own: &mut [u8],
+    ended: Ended,
+) -> Ended
+    requires { ⌜ ReadyAtEnd (tables (now refs) (now subs) (now trans) (now pool)) (now own) ended ⌝ }
+    ensures { λ r. ⌜ EndedAs (tables (now (refs .exit)) (now (subs .exit)) (now (trans .exit)) (now (pool .exit))) (now (own .exit)) r (afterReading (readingOf (tables (now (refs .entry)) (now (subs .entry)) (now (trans .entry)) (now (pool .entry))) (now (own .entry)) ended) (tagValue (tagNumber kind) (addTo kind) (given there (now (value .entry))))) ⌝ }
+{
+    if !there {
+        return ended;
+    }
+    match ended {
+        Ended::Done(state) => read_text(
+            Source::Tag(kind),
+            value,
+            refs,
+            subs,
+            trans,
+            pool,
+            own,
+            state,
+        ),
+        Ended::Refused {
+            number,
+            line,
+            start,
+            size,
+        } => Ended::Refused {
+            number,
+            line,
+            start,
+            size,
+        },
+    }
+}
+
+// The three tags, into tables that hold nothing yet.
+fn read_tags(
+    has_name: bool,
+    name: &[u8],
+    has_subgraph: bool,
+    subgraph: &[u8],
+    has_translation: bool,
+    translation: &[u8],
+    refs: &mut [u32],
+    subs: &mut [u32],
+    trans: &mut [u32],
+    pool: &mut [u8],
+    own: &mut [u8],
+) -> Ended
+    requires { ⌜ Lengths (now refs) (now subs) (now trans) (now pool) (now own) ⌝ }
+    ensures { λ r. ⌜ EndedAs (tables (now (refs .exit)) (now (subs .exit)) (now (trans .exit)) (now (pool .exit))) (now (own .exit)) r (fromTags (given «has_name» (now (name .entry))) (given «has_subgraph» (now (subgraph .entry))) (given «has_translation» (now (translation .entry)))) ⌝ }
+{
+    let named = read_name(has_name, name, refs, subs, trans, pool, own, begin());
+    let first = read_tag(
+        Kind::Subgraph,
+        has_subgraph,
+        subgraph,
+        refs,
+        subs,
+        trans,
+        pool,
+        own,
+        named,
+    );
+    read_tag(
+        Kind::Translation,
+        has_translation,
+        translation,
+        refs,
+        subs,
+        trans,
+        pool,
+        own,
+        first,
+    )
+}
+
+// Reads the values of the three tags, each there or not, into a record buffer.
+pub fn from_tags(
+    has_name: bool,
+    name: &[u8],
+    has_subgraph: bool,
+    subgraph: &[u8],
+    has_translation: bool,
+    translation: &[u8],
+    buffer: &mut [u8],
+) -> Answer
+    ensures { λ r. ⌜ (refusalIn r ≡ refusalInto (fromTags (given «has_name» (now (name .entry))) (given «has_subgraph» (now (subgraph .entry))) (given «has_translation» (now (translation .entry)))) (now (buffer .entry))) × (now (buffer .exit) ≡ readTagsInto (given «has_name» (now (name .entry))) (given «has_subgraph» (now (subgraph .entry))) (given «has_translation» (now (translation .entry))) (now (buffer .entry)) .buffer) ⌝ }
+{
+    if buffer.len() != 32768 {
+        return Answer::Refused {
+            number: 15,
+            line: 0,
+            start: 0,
+            size: 0,
+        };
+    }
+    let mut refs = edit::name_table();
+    let mut subs = edit::pair_table();
+    let mut trans = edit::pair_table();
+    let mut pool = edit::pool();
+    let mut own = [0u8; 256];
+    let ended = read_tags(
+        has_name,
+        name,
+        has_subgraph,
+        subgraph,
+        has_translation,
+        translation,
+        &mut refs,
+        &mut subs,
+        &mut trans,
+        &mut pool,
+        &mut own,
+    );
+    finish(
+        &mut refs,
+        &mut subs,
+        &mut trans,
+        &mut pool,
+        &own,
+        ended,
+        buffer,
+    )
+}

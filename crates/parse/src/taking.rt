@@ -1,0 +1,143 @@
+// A field taken into the working tables: its own name is kept apart, its pair put in, and the sizes judged on what stands then.
+use crate::field::Content;
+use edit::Sizes;
+use model::Kind;
+ghost use mathlib.Core.Path.{_≡_};
+ghost use Prim.Native.Nat.{_+_, _≤_};
+ghost use lib.ListN.{length};
+ghost use Rattle.model.specs.Bytes.{put};
+ghost use Rattle.model.specs.Record.{withPair};
+ghost use Rattle.model.specs.Reading.{judged};
+ghost use Rattle.edit.specs.Judging.{NamesKept};
+ghost use Rattle.edit.specs.Tables.{tables, namesIn};
+ghost use Rattle.parse.specs.Fields.{apply};
+ghost use Rattle.parse.specs.Contents.{fieldOf, Within};
+ghost use Rattle.parse.specs.State.{nothingTaken, ownOf, graphNow, judgeNames, judgedAs, nameTaken, Ready, TakenAs};
+
+// What a reading has so far: how much of the tables is in use, and the own name's length and one more, or 0 for none.
+pub(crate) struct State {
+    pub sizes: Sizes,
+    pub own: usize,
+}
+
+// A field taken: what the reading has then, or the number of the refusal.
+pub(crate) enum FieldTaken {
+    Took(State),
+    Wrong(usize),
+}
+
+// Nothing taken yet.
+pub(crate) fn begin() -> State
+    ensures { λ r. ⌜ r ≡ nothingTaken ⌝ }
+{
+    State {
+        sizes: Sizes {
+            names: 0,
+            bytes: 0,
+            subgraph: 0,
+            translation: 0,
+        },
+        own: 0,
+    }
+}
+
+// The number of the tables with the own name, which is counted once.
+fn judge(refs: &[u32], pool: &[u8], sizes: Sizes, own: &[u8], n: usize) -> u32
+    requires { ⌜ NamesKept (now refs) (now pool) sizes ⌝ }
+    ensures { λ r. ⌜ r ≡ judgeNames (ownOf (now (own .entry)) n) (namesIn (now (pool .entry)) (sizes .names) (now (refs .entry))) sizes ⌝ }
+{
+    if n == 0 {
+        return edit::judged(refs, pool, sizes, false, own);
+    }
+    edit::judged(refs, pool, sizes, true, text::part(own, 0, n - 1))
+}
+
+// A state, if its sizes allow it.
+fn judged_state(refs: &[u32], pool: &[u8], own: &[u8], state: State) -> FieldTaken
+    requires { ⌜ NamesKept (now refs) (now pool) (state .sizes) ⌝ }
+    ensures { λ r. ⌜ r ≡ judgedAs (judgeNames (ownOf (now (own .entry)) (state .own)) (namesIn (now (pool .entry)) (state .sizes .names) (now (refs .entry))) (state .sizes)) state ⌝ }
+{
+    let number = judge(refs, pool, state.sizes, own, state.own);
+    if number == 0 {
+        return FieldTaken::Took(state);
+    }
+    FieldTaken::Wrong(number as usize)
+}
+
+// An own name, in the place of the one before.
+fn take_name(refs: &[u32], pool: &[u8], own: &mut [u8], sizes: Sizes, name: &[u8]) -> FieldTaken
+    requires { ⌜ NamesKept (now refs) (now pool) sizes × (length (now own) ≡ 256) ⌝ }
+    ensures { λ r. ⌜ (r ≡ nameTaken (namesIn (now (pool .entry)) (sizes .names) (now (refs .entry))) sizes (now (name .entry))) × (length (now (name .entry)) ≤ 256 → now (own .exit) ≡ put (now (own .entry)) 0 (now (name .entry))) ⌝ }
+{
+    if 256 < name.len() {
+        return FieldTaken::Wrong(11);
+    }
+    let size = text::copy(own, 0, name);
+    judged_state(
+        refs,
+        pool,
+        own,
+        State {
+            sizes,
+            own: size + 1,
+        },
+    )
+}
+
+// A pair of a kind.
+fn take_pair(
+    kind: Kind,
+    refs: &mut [u32],
+    subs: &mut [u32],
+    trans: &mut [u32],
+    pool: &mut [u8],
+    own: &[u8],
+    state: State,
+    from: &[u8],
+    to: &[u8],
+) -> FieldTaken
+    requires { ⌜ Ready (tables (now refs) (now subs) (now trans) (now pool) (state .sizes)) (now own) (state .own) ⌝ }
+    ensures { λ r. ⌜ TakenAs (tables (now (refs .exit)) (now (subs .exit)) (now (trans .exit)) (now (pool .exit))) (now (own .entry)) r (judged (withPair kind (record { from = now (from .entry); to = now (to .entry) }) (graphNow (tables (now (refs .entry)) (now (subs .entry)) (now (trans .entry)) (now (pool .entry)) (state .sizes)) (now (own .entry)) (state .own)))) ⌝ }
+{
+    if 256 < from.len() {
+        return FieldTaken::Wrong(11);
+    }
+    if 256 < to.len() {
+        return FieldTaken::Wrong(11);
+    }
+    let n = state.own;
+    let sizes = edit::put_pair(kind, refs, subs, trans, pool, state.sizes, from, to);
+    judged_state(refs, pool, own, State { sizes, own: n })
+}
+
+// A field with what it says, taken into the tables and the own name.
+pub(crate) fn take_field(
+    refs: &mut [u32],
+    subs: &mut [u32],
+    trans: &mut [u32],
+    pool: &mut [u8],
+    own: &mut [u8],
+    state: State,
+    f: &[u8],
+    content: Content,
+) -> FieldTaken
+    requires { ⌜ Ready (tables (now refs) (now subs) (now trans) (now pool) (state .sizes)) (now own) (state .own) × Within (now f) content ⌝ }
+    ensures { λ r. ⌜ TakenAs (tables (now (refs .exit)) (now (subs .exit)) (now (trans .exit)) (now (pool .exit))) (now (own .exit)) r (apply (graphNow (tables (now (refs .entry)) (now (subs .entry)) (now (trans .entry)) (now (pool .entry)) (state .sizes)) (now (own .entry)) (state .own)) (fieldOf (now (f .entry)) content)) ⌝ }
+{
+    match content {
+        Content::Fault(number) => FieldTaken::Wrong(number),
+        Content::Nothing => FieldTaken::Took(state),
+        Content::Name(i) => take_name(refs, pool, own, state.sizes, text::part(f, i, f.len())),
+        Content::Relation(kind, i, m) => take_pair(
+            kind,
+            refs,
+            subs,
+            trans,
+            pool,
+            own,
+            state,
+            text::part(f, i, m - i),
+            text::part(f, m + 1, f.len()),
+        ),
+    }
+}
