@@ -7,3 +7,4 @@ pub mod Ongoing
 pub mod Stored
 pub mod Finished
 pub mod TagValues
+pub mod Bounds
