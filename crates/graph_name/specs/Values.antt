@@ -1,11 +1,13 @@
 -- The numbers that an answer is handed out as: 1 and 0 for yes and no, and 0 beside a part that is not there. Assumes nothing.
-use mathlib.Core.Bool.{Bool, true, false}
+use mathlib.Core.Bool.{Bool, true, false, not}
+use lib.Dec.{eqb}
 use mathlib.Core.Option.{Option, some, none}
 use Prim.Native.Nat.{ℕ, _+_}
 use Rattle.model.specs.declared.Strictness.{Strictness}
 use Rattle.model.specs.declared.Strictness.the-variants.{Fine, Faulty}
 use lib.ListN.{length}
 use Rattle.model.specs.Bytes.{Bytes}
+use Rattle.parse.specs.Answers.{given}
 use Rattle.model.specs.Outcome.{Answer, refusal, notFound, found}
 use Rattle.search.specs.declared.Reply.{Reply}
 use Rattle.search.specs.declared.Reply.the-variants.{Refused, No, Yes}
@@ -70,3 +72,7 @@ abbrev pub replyValue : ℕ → Reply → ℕ
 replyValue old (Refused n) = old
 replyValue old No = 0
 replyValue old Yes = 1
+
+-- a tag's value, there if its flag is not 0
+abbrev pub flagged : ℕ → Bytes → Option Bytes
+flagged flag value = given (not (eqb flag 0)) value

@@ -4,12 +4,15 @@
 // definition of `model/specs`, on the arguments alone.
 mod lines;
 mod questions;
+mod readings;
 mod records;
 mod texts;
 
 pub use lines::graph_name_check_strict;
 pub use questions::graph_name_is_subgraph_of;
 pub use questions::graph_name_translates_to;
+pub use readings::graph_name_from_header_lines;
+pub use readings::graph_name_from_tags;
 pub use records::graph_name_counts;
 pub use records::graph_name_is_same;
 pub use records::graph_name_name;

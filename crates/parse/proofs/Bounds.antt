@@ -1,4 +1,4 @@
--- The number of a refused reading is at most 14.
+-- The number of a refused reading is at most 14, and 15 with a buffer of a wrong size.
 use mathlib.Core.Bool.{Bool, true, false, cond, not, _||_}
 use mathlib.Core.List.{List, [], _∷_}
 use mathlib.Core.Option.{Option, some, none}
@@ -8,6 +8,7 @@ use lib.ListN.{length, take, drop, getD}
 use Rattle.model.specs.Text.{text}
 use Rattle.model.specs.Bytes.{Bytes, sameBytes, split}
 use Rattle.model.specs.Record.{Pair, GraphName, empty, withName, names, anyLong, bodies, judge}
+use Rattle.model.specs.Outcome.{refusalOf, refusalInto}
 use Rattle.model.specs.Reading.{Reading, done, refused, Taken, took, wrong, judged, twoParts, orWrong, addSubgraphTo, addTranslationTo, isTyped, typedField, oneName, gafLine, afterTaken, afterReading, refuse, typedFields, isGafHead, lineFields, linesFrom, withoutLastEmpty, fromHeaderLines, tagRelations, tagValue, nameValue, fromTags}
 
 abbrev pub SmallTaken : Taken → Type 0
@@ -107,3 +108,11 @@ unfolding fromTags
 tags-small n s t =
     reading-small (nameValue n empty) _ (name-small n empty)
     (λ g. reading-small (tagValue 9 addSubgraphTo s g) (tagValue 10 addTranslationTo t) (value-small 9 (lit≤ tt) addSubgraphTo s g) (value-small 10 (lit≤ tt) addTranslationTo t))
+
+pub into-small : (r : Reading) (buffer : Bytes) → Small r → refusalInto r buffer .number ≤ 15
+into-small r buffer s = go (eqb (length buffer) 32768) r s
+  where
+    go : (t : Bool) (r : Reading) → Small r → _≤_ ((cond t (refusalOf r) (record { number = 15; line = 0; start = 0; size = 0 })) .number) 15
+    go true (done g) s = lit≤ tt
+    go true (refused r) s = omega arith
+    go false r s = lit≤ tt
