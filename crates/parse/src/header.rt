@@ -1,5 +1,5 @@
 // Reading header lines.
-use crate::field::Source;
+use fields::Source;
 use crate::finish::Answer;
 use crate::finish::finish;
 use crate::reading::read_text;

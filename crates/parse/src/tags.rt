@@ -1,6 +1,6 @@
 // Reading the values of the three tags: name, subgraph, translation.
-use crate::field::Content;
-use crate::field::Source;
+use fields::Content;
+use fields::Source;
 use crate::finish::Answer;
 use crate::finish::finish;
 use crate::reading::Ended;
@@ -14,7 +14,7 @@ ghost use mathlib.Core.Path.{_≡_};
 ghost use Rattle.model.specs.Reading.{afterReading, nameValue, tagValue, fromTags};
 ghost use Rattle.model.specs.Outcome.{readTagsInto, refusalInto};
 ghost use Rattle.edit.specs.Tables.{tables};
-ghost use Rattle.parse.specs.Fields.{addTo, tagNumber};
+ghost use Rattle.fields.specs.Fields.{addTo, tagNumber};
 ghost use Rattle.parse.specs.State.{Lengths, graphNow, Ready, readingOf, ReadyAtEnd, EndedAs};
 ghost use Rattle.parse.specs.Answers.{refusalIn, given};
 
