@@ -1,10 +1,10 @@
 // A text read field by field into the working tables.
-use fields::Source;
-use fields::Tally;
-use fields::next;
 use crate::taking::FieldTaken;
 use crate::taking::State;
 use crate::taking::take_field;
+use fields::Source;
+use fields::Tally;
+use fields::next;
 ghost use mathlib.Core.Path.{_≡_};
 ghost use Rattle.edit.specs.Tables.{tables};
 ghost use Rattle.fields.specs.Rest.{restOf};

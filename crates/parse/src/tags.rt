@@ -1,6 +1,4 @@
 // Reading the values of the three tags: name, subgraph, translation.
-use fields::Content;
-use fields::Source;
 use crate::finish::Answer;
 use crate::finish::finish;
 use crate::reading::Ended;
@@ -8,7 +6,10 @@ use crate::reading::read_text;
 use crate::taking::FieldTaken;
 use crate::taking::State;
 use crate::taking::begin;
+use crate::taking::own_buffer;
 use crate::taking::take_field;
+use fields::Content;
+use fields::Source;
 use model::Kind;
 ghost use mathlib.Core.Path.{_≡_};
 ghost use Rattle.model.specs.Reading.{afterReading, nameValue, tagValue, fromTags};
@@ -155,7 +156,7 @@ pub fn from_tags(
     let mut subs = edit::pair_table();
     let mut trans = edit::pair_table();
     let mut pool = edit::pool();
-    let mut own = [0u8; 256];
+    let mut own = own_buffer();
     let ended = read_tags(
         has_name,
         name,

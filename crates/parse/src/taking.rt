@@ -1,6 +1,6 @@
 // A field taken into the working tables: its own name is kept apart, its pair put in, and the sizes judged on what stands then.
-use fields::Content;
 use edit::Sizes;
+use fields::Content;
 use model::Kind;
 ghost use mathlib.Core.Path.{_≡_};
 ghost use Prim.Native.Nat.{_+_, _≤_};
@@ -24,6 +24,13 @@ pub(crate) struct State {
 pub(crate) enum FieldTaken {
     Took(State),
     Wrong(usize),
+}
+
+// A buffer for an own name.
+pub(crate) fn own_buffer() -> [u8; 256]
+    ensures { λ r. ⌜ length r ≡ 256 ⌝ }
+{
+    [0; 256]
 }
 
 // Nothing taken yet.
