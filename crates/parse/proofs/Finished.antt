@@ -19,9 +19,9 @@ use Rattle.parse.specs.declared.taking.State.{State}
 use Rattle.parse.specs.declared.reading.Ended.{Ended}
 use Rattle.parse.specs.declared.reading.Ended.the-variants.{Done, Refused}
 use Rattle.parse.specs.declared.finish.Answer.the-variants.{Done as Answered, Refused as Denied}
-use Rattle.parse.specs.Rest.{restOf}
-use Rattle.parse.specs.declared.field.Source.the-variants.{Header}
-use Rattle.parse.proofs.Rest.{header-start}
+use Rattle.fields.specs.Rest.{restOf}
+use Rattle.fields.specs.declared.field.Source.the-variants.{Header}
+use Rattle.fields.proofs.Rest.{header-start}
 use Rattle.parse.specs.Answers.{refusalIn}
 use Rattle.parse.specs.State.{firstStop, readingOf, Lengths, nothingTaken, graphNow, Ready}
 

@@ -1,7 +1,3 @@
-pub mod Classified
-pub mod Parts
-pub mod Rest
-pub mod Steps
 pub mod Progress
 pub mod Ongoing
 pub mod Stored

@@ -11,20 +11,20 @@ use Rattle.model.specs.Record.{GraphName}
 use Rattle.model.specs.Reading.{Reading, refused, afterTaken, refuse}
 use Rattle.edit.specs.declared.tables.Sizes.{Sizes}
 use Rattle.edit.specs.Tables.{Tables, tables}
-use Rattle.parse.specs.declared.field.Source.{Source}
-use Rattle.parse.specs.declared.field.Source.the-variants.{Header, Tag}
-use Rattle.parse.specs.declared.next.Tally.{Tally}
-use Rattle.parse.specs.declared.next.FieldRead.{FieldRead}
+use Rattle.fields.specs.declared.field.Source.{Source}
+use Rattle.fields.specs.declared.field.Source.the-variants.{Header, Tag}
+use Rattle.fields.specs.declared.step.Tally.{Tally}
+use Rattle.fields.specs.declared.step.FieldRead.{FieldRead}
 use Rattle.parse.specs.declared.taking.State.{State}
 use Rattle.parse.specs.declared.taking.FieldTaken.{FieldTaken}
 use Rattle.parse.specs.declared.taking.FieldTaken.the-variants.{Took, Wrong}
 use Rattle.parse.specs.declared.reading.Ended.{Ended}
 use Rattle.parse.specs.declared.reading.Ended.the-variants.{Done, Refused}
-use Rattle.parse.specs.Fields.{apply}
-use Rattle.parse.specs.Contents.{fieldOf}
-use Rattle.parse.specs.Rest.{restOf, Place, partOf, Reads}
+use Rattle.fields.specs.Fields.{apply}
+use Rattle.fields.specs.Contents.{fieldOf}
+use Rattle.fields.specs.Rest.{restOf, Place, partOf, Reads}
 use Rattle.parse.specs.State.{graphNow, Ready, takenOf, ReadyAfter, TakenAs, firstStop, refusedAs, EndedAs}
-use Rattle.parse.proofs.Rest.{rest-end}
+use Rattle.fields.proofs.Rest.{rest-end}
 
 pub record Ongoing (source : Source) (t : Bytes) (whole : Reading) (refs subs trans : List ℕ) (pool own : Bytes) (state : State) (stop at : ℕ) (tally : Tally) : Type 0 where
   pub ready : Ready (tables refs subs trans pool (state .sizes)) own (state .own)

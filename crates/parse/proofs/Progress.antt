@@ -29,10 +29,10 @@ use Rattle.edit.proofs.Pairs.{names-withPair}
 use Rattle.edit.proofs.Total.{total, total-count, total-bodies, total-part}
 use Rattle.edit.proofs.Judge.{names-owned, any-insert, length-shown, judge-tables}
 use Rattle.text.proofs.Tests.{either-true}
-use Rattle.parse.specs.declared.field.Content.{Content}
-use Rattle.parse.specs.declared.field.Content.the-variants.{Fault, Nothing, Name, Relation}
-use Rattle.parse.specs.Fields.{apply}
-use Rattle.parse.specs.Contents.{fieldOf}
+use Rattle.fields.specs.declared.field.Content.{Content}
+use Rattle.fields.specs.declared.field.Content.the-variants.{Fault, Nothing, Name, Relation}
+use Rattle.fields.specs.Fields.{apply}
+use Rattle.fields.specs.Contents.{fieldOf}
 use Rattle.parse.specs.declared.taking.State.{State}
 use Rattle.parse.specs.declared.taking.FieldTaken.{FieldTaken}
 use Rattle.parse.specs.declared.taking.FieldTaken.the-variants.{Took, Wrong}

@@ -16,12 +16,12 @@ use Rattle.parse.specs.declared.taking.FieldTaken.{FieldTaken}
 use Rattle.parse.specs.declared.taking.FieldTaken.the-variants.{Took, Wrong}
 use Rattle.parse.specs.declared.reading.Ended.{Ended}
 use Rattle.parse.specs.declared.reading.Ended.the-variants.{Done, Refused}
-use Rattle.parse.specs.declared.field.Source.the-variants.{Tag}
-use Rattle.parse.specs.Fields.{addTo, tagNumber}
-use Rattle.parse.specs.Rest.{restOf}
+use Rattle.fields.specs.declared.field.Source.the-variants.{Tag}
+use Rattle.fields.specs.Fields.{addTo, tagNumber}
+use Rattle.fields.specs.Rest.{restOf}
 use Rattle.parse.specs.State.{graphNow, Ready, ReadyAfter, TakenAs, firstStop, readingOf, ReadyAtEnd, EndedAs}
 use Rattle.parse.specs.Answers.{given}
-use Rattle.parse.proofs.Rest.{tag-start}
+use Rattle.fields.proofs.Rest.{tag-start}
 
 module _ (at : Sizes → Tables) (own : Bytes) where
   -- ---------------------------------------------------------------- the name

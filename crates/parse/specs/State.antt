@@ -12,8 +12,8 @@ use Rattle.model.specs.Reading.{Taken, took, wrong, Reading, done, refused}
 use Rattle.edit.specs.declared.tables.Sizes.{Sizes}
 use Rattle.edit.specs.Tables.{Tables, graphIn, Good}
 use Rattle.edit.specs.Judging.{owned, namesAnd, sizeFault}
-use Rattle.parse.specs.declared.field.Source.{Source}
-use Rattle.parse.specs.declared.field.Source.the-variants.{Header, Tag}
+use Rattle.fields.specs.declared.field.Source.{Source}
+use Rattle.fields.specs.declared.field.Source.the-variants.{Header, Tag}
 use Rattle.parse.specs.declared.reading.Ended.{Ended}
 use Rattle.parse.specs.declared.reading.Ended.the-variants.{Done, Refused}
 use Rattle.parse.specs.declared.taking.State.{State}

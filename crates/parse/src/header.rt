@@ -1,9 +1,10 @@
 // Reading header lines.
-use crate::field::Source;
 use crate::finish::Answer;
 use crate::finish::finish;
 use crate::reading::read_text;
 use crate::taking::begin;
+use crate::taking::own_buffer;
+use fields::Source;
 ghost use mathlib.Core.Path.{_≡_};
 ghost use Rattle.model.specs.Reading.{fromHeaderLines};
 ghost use Rattle.model.specs.Outcome.{readInto, refusalInto};
@@ -25,7 +26,7 @@ pub fn from_header_lines(t: &[u8], buffer: &mut [u8]) -> Answer
     let mut subs = edit::pair_table();
     let mut trans = edit::pair_table();
     let mut pool = edit::pool();
-    let mut own = [0u8; 256];
+    let mut own = own_buffer();
     let ended = read_text(
         Source::Header,
         t,

@@ -1,13 +1,13 @@
 // A text read field by field into the working tables.
-use crate::field::Source;
-use crate::next::Tally;
-use crate::next::next;
 use crate::taking::FieldTaken;
 use crate::taking::State;
 use crate::taking::take_field;
+use fields::Source;
+use fields::Tally;
+use fields::next;
 ghost use mathlib.Core.Path.{_≡_};
 ghost use Rattle.edit.specs.Tables.{tables};
-ghost use Rattle.parse.specs.Rest.{restOf};
+ghost use Rattle.fields.specs.Rest.{restOf};
 ghost use Rattle.parse.specs.State.{graphNow, Ready, firstStop, refusedAs, EndedAs};
 
 // How a reading ends: with what it has then, or with a refusal's number, line and quoted part.

@@ -1,6 +1,4 @@
 // Reading the values of the three tags: name, subgraph, translation.
-use crate::field::Content;
-use crate::field::Source;
 use crate::finish::Answer;
 use crate::finish::finish;
 use crate::reading::Ended;
@@ -8,13 +6,16 @@ use crate::reading::read_text;
 use crate::taking::FieldTaken;
 use crate::taking::State;
 use crate::taking::begin;
+use crate::taking::own_buffer;
 use crate::taking::take_field;
+use fields::Content;
+use fields::Source;
 use model::Kind;
 ghost use mathlib.Core.Path.{_≡_};
 ghost use Rattle.model.specs.Reading.{afterReading, nameValue, tagValue, fromTags};
 ghost use Rattle.model.specs.Outcome.{readTagsInto, refusalInto};
 ghost use Rattle.edit.specs.Tables.{tables};
-ghost use Rattle.parse.specs.Fields.{addTo, tagNumber};
+ghost use Rattle.fields.specs.Fields.{addTo, tagNumber};
 ghost use Rattle.parse.specs.State.{Lengths, graphNow, Ready, readingOf, ReadyAtEnd, EndedAs};
 ghost use Rattle.parse.specs.Answers.{refusalIn, given};
 
@@ -155,7 +156,7 @@ pub fn from_tags(
     let mut subs = edit::pair_table();
     let mut trans = edit::pair_table();
     let mut pool = edit::pool();
-    let mut own = [0u8; 256];
+    let mut own = own_buffer();
     let ended = read_tags(
         has_name,
         name,

@@ -1,6 +1,6 @@
 // A field taken into the working tables: its own name is kept apart, its pair put in, and the sizes judged on what stands then.
-use crate::field::Content;
 use edit::Sizes;
+use fields::Content;
 use model::Kind;
 ghost use mathlib.Core.Path.{_≡_};
 ghost use Prim.Native.Nat.{_+_, _≤_};
@@ -10,8 +10,8 @@ ghost use Rattle.model.specs.Record.{withPair};
 ghost use Rattle.model.specs.Reading.{judged};
 ghost use Rattle.edit.specs.Judging.{NamesKept};
 ghost use Rattle.edit.specs.Tables.{tables, namesIn};
-ghost use Rattle.parse.specs.Fields.{apply};
-ghost use Rattle.parse.specs.Contents.{fieldOf, Within};
+ghost use Rattle.fields.specs.Fields.{apply};
+ghost use Rattle.fields.specs.Contents.{fieldOf, Within};
 ghost use Rattle.parse.specs.State.{nothingTaken, ownOf, graphNow, judgeNames, judgedAs, nameTaken, Ready, TakenAs};
 
 // What a reading has so far: how much of the tables is in use, and the own name's length and one more, or 0 for none.
@@ -24,6 +24,13 @@ pub(crate) struct State {
 pub(crate) enum FieldTaken {
     Took(State),
     Wrong(usize),
+}
+
+// A buffer for an own name.
+pub(crate) fn own_buffer() -> [u8; 256]
+    ensures { λ r. ⌜ length r ≡ 256 ⌝ }
+{
+    [0; 256]
 }
 
 // Nothing taken yet.

@@ -1,6 +1,5 @@
 -- A buffer of a wrong size, or the reading and its end (`Finished`).
 use mathlib.Core.Path.{refl, _∙_}
-use lib.ListN.{replicate}
 use Rattle.parse.specs.State.{Lengths}
 use Rattle.model.specs.Reading.{fromHeaderLines}
 use Rattle.model.specs.Outcome.{readInto}
@@ -10,14 +9,17 @@ use Rattle.parse.proofs.header.from_header_lines.Statement.{statement}
 use Rattle.parse.proofs.header.from_header_lines.Tie as tie
 
 -- the tables and the own name's buffer, of their lengths
-fresh : (p : tie.After-pool) → Lengths (p .before .before .before .name-table .result) (p .before .before .pair-table .result) (p .before .pair-table2 .result) (p .pool .result) (replicate 256 0)
-fresh p = record {
-  refs = p .before .before .before .name-table .ensures;
-  subs = p .before .before .pair-table .ensures;
-  trans = p .before .pair-table2 .ensures;
-  pool = p .pool .ensures;
-  own = refl;
-}
+fresh : (b : tie.After-own-buffer) → let p = b .before in
+    Lengths (p .before .before .before .name-table .result) (p .before .before .pair-table .result) (p .before .pair-table2 .result) (p .pool .result) (b .own-buffer .result)
+fresh b =
+    let p = b .before in
+    record {
+      refs = p .before .before .before .name-table .ensures;
+      subs = p .before .before .pair-table .ensures;
+      trans = p .before .pair-table2 .ensures;
+      pool = p .pool .ensures;
+      own = b .own-buffer .ensures;
+    }
 
 returns : tie.Need-returns
 unfolding readInto
@@ -36,6 +38,9 @@ pair-table-requires-2 c κs = search needs
 
 pool-requires : tie.Need-pool-requires
 pool-requires c κs = search needs
+
+own-buffer-requires : tie.Need-own-buffer-requires
+own-buffer-requires c κs = search needs
 
 slice-aggregate-read-text : tie.Need-slice-aggregate-read-text
 slice-aggregate-read-text c = search needs
@@ -57,10 +62,11 @@ begin-requires c κs = search needs
 
 read-text-requires : tie.Need-read-text-requires
 read-text-requires c κs =
-    let p = c .before .before .before .before .before .before in
+    let b = c .before .before .before .before .before .before in
+    let p = b .before in
     let n = p .before .before .before in
     rw (c .begin .ensures)
-    (nothing-ready (n .name-table .result) (p .before .before .pair-table .result) (p .before .pair-table2 .result) (p .pool .result) _ (fresh p))
+    (nothing-ready (n .name-table .result) (p .before .before .pair-table .result) (p .before .pair-table2 .result) (p .pool .result) (b .own-buffer .result) (fresh b))
 
 slice-aggregate-finish : tie.Need-slice-aggregate-finish
 slice-aggregate-finish c = search needs
@@ -89,13 +95,14 @@ returns-2 c =
     let f = c .before .before .before .before .before .before in
     let t = f .before .before .before .before .before .before .before .before .before .before .before .before in
     let i = t .before in
-    let p = i .before .before .before .before .before .before in
+    let b = i .before .before .before .before .before .before in
+    let p = b .before in
     let n = p .before .before .before in
     let s = n .before .before .before .before in
     let a = s .args in
     finished (a .buffer .now) _ (fromHeaderLines (a .t .now)) (n .before .if1 .left) _
     (t .read-text .ensures .same
-    ∙ header-read (n .name-table .result) (p .before .before .pair-table .result) (p .before .pair-table2 .result) (p .pool .result) _ (fresh p) (a .t .now) (i .begin .result) (i .begin .ensures))
+    ∙ header-read (n .name-table .result) (p .before .before .pair-table .result) (p .before .pair-table2 .result) (p .pool .result) (b .own-buffer .result) (fresh b) (a .t .now) (i .begin .result) (i .begin .ensures))
     _ (f .finish .ensures)
 
 pub from-header-lines-spec : {M : Type 1} → statement M
@@ -107,6 +114,7 @@ from-header-lines-spec =
     pair-table-requires
     pair-table-requires-2
     pool-requires
+    own-buffer-requires
     slice-aggregate-read-text
     slice-aggregate-read-text-2
     slice-aggregate-read-text-3

@@ -6,9 +6,9 @@ use lib.ListN.{length}
 use borrow.Author.Tests.{ltb-true, ltb-false}
 use Rattle.model.specs.Bytes.{Bytes}
 use Rattle.edit.specs.Tables.{tables}
-use Rattle.parse.specs.Fields.{apply}
-use Rattle.parse.specs.Contents.{fieldOf, Within}
-use Rattle.parse.specs.Rest.{restOf, partOf}
+use Rattle.fields.specs.Fields.{apply}
+use Rattle.fields.specs.Contents.{fieldOf, Within}
+use Rattle.fields.specs.Rest.{restOf, partOf}
 use Rattle.parse.specs.State.{graphNow, TakenAs, firstStop}
 use Rattle.parse.proofs.Ongoing.{Ongoing, reading-starts, reading-ends, reading-goes-on, reading-refused}
 use borrow.Author.Needs.{needs}

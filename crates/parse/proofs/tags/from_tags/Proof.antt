@@ -26,6 +26,9 @@ pair-table-requires-2 c κs = search needs
 pool-requires : tie.Need-pool-requires
 pool-requires c κs = search needs
 
+own-buffer-requires : tie.Need-own-buffer-requires
+own-buffer-requires c κs = search needs
+
 slice-aggregate-read-tags : tie.Need-slice-aggregate-read-tags
 slice-aggregate-read-tags c = search needs
 
@@ -70,7 +73,7 @@ unfolding readTagsInto
 returns-2 c =
     let f = c .before .before .before .before .before .before in
     let t = f .before .before .before .before .before .before .before .before .before .before .before .before in
-    let e = t .before .before .before .before .before .before .before .before .before .before in
+    let e = t .before .before .before .before .before .before .before .before .before .before .before in
     let a = e .before .before .before .before .before .args in
     finished (a .buffer .now) _ (fromTags (given (a .has-name) (a .name .now)) (given (a .has-subgraph) (a .subgraph .now)) (given (a .has-translation) (a .translation .now))) (e .if1 .left) _ (t .read-tags .ensures .same) _ (f .finish .ensures)
 
@@ -83,6 +86,7 @@ from-tags-spec =
     pair-table-requires
     pair-table-requires-2
     pool-requires
+    own-buffer-requires
     slice-aggregate-read-tags
     slice-aggregate-read-tags-2
     slice-aggregate-read-tags-3

@@ -1,9 +1,9 @@
 -- By what the field says (`Progress`).
 use mathlib.Core.Path.{refl, subst}
 use Rattle.edit.specs.Tables.{tables}
-use Rattle.parse.specs.Contents.{Within}
-use Rattle.parse.specs.declared.field.Content.{Content}
-use Rattle.parse.specs.declared.field.Content.the-variants.{Relation}
+use Rattle.fields.specs.Contents.{Within}
+use Rattle.fields.specs.declared.field.Content.{Content}
+use Rattle.fields.specs.declared.field.Content.the-variants.{Relation}
 use Rattle.parse.proofs.Progress.{name-progress, fault-taken, nothing-taken, name-said, pair-said}
 use native.Mathlib.Omega.{arith}
 use borrow.Author.Needs.{needs}

@@ -1,0 +1,4 @@
+pub mod Classified
+pub mod Parts
+pub mod Rest
+pub mod Steps
