@@ -1,6 +1,5 @@
 // Header lines and tags read into a record. A refusal leaves the empty record, but for 15, which writes nothing.
 use parse::Answer;
-
 ghost use mathlib.Core.Path.{_≡_};
 ghost use Prim.Native.Nat.{_≤_};
 ghost use Rattle.model.specs.Reading.{fromHeaderLines, fromTags};
@@ -10,7 +9,13 @@ ghost use Rattle.graph_name.specs.Values.{flagged};
 
 // Reads header lines. Line, start and length are always written: the refusal's line and quoted part, or all 0.
 #[no_mangle]
-pub extern "C" fn graph_name_from_header_lines(text: &[u8], buf: &mut [u8], line: &mut u64, start: &mut u64, length: &mut u64) -> u32
+pub extern "C" fn graph_name_from_header_lines(
+    text: &[u8],
+    buf: &mut [u8],
+    line: &mut u64,
+    start: &mut u64,
+    length: &mut u64,
+) -> u32
     ensures { λ r. ⌜ r ≡ refusalInto (fromHeaderLines (now (text .entry))) (now (buf .entry)) .number ⌝ }
     ensures { λ _. ⌜ now (buf .exit) ≡ readInto (now (text .entry)) (now (buf .entry)) .buffer ⌝ }
     ensures { λ _. ⌜ now (line .exit) ≡ refusalInto (fromHeaderLines (now (text .entry))) (now (buf .entry)) .line ⌝ }

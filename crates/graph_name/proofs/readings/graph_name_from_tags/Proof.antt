@@ -1,0 +1,34 @@
+-- What the reading answers, handed out; its number is small.
+use mathlib.Core.Path.{ap, _∙_}
+use Rattle.model.specs.Reading.{Refusal, fromTags}
+use Rattle.parse.proofs.Bounds.{into-small, tags-small}
+use Rattle.graph_name.specs.Values.{flagged}
+use borrow.Author.Needs.{needs}
+use Rattle.graph_name.proofs.readings.graph_name_from_tags.Statement.{statement}
+use Rattle.graph_name.proofs.readings.graph_name_from_tags.Tie as tie
+
+from-tags-requires : tie.Need-from-tags-requires
+from-tags-requires c κs = search needs
+
+refusal-out-requires : tie.Need-refusal-out-requires
+refusal-out-requires c κs =
+    let a = c .before .before .before .before .before .before .before .before .before .before .before .args in
+    let n = flagged (a .named) (a .name .now) in
+    let s = flagged (a .within) (a .subgraph .now) in
+    let t = flagged (a .translated) (a .translation .now) in
+    rw (c .before .before .before .before .before .from-tags .ensures .0) (into-small (fromTags n s t) (a .buf .now) (tags-small n s t))
+
+same-length : tie.Need-same-length
+same-length c = search needs
+
+returns : tie.Need-returns
+returns c =
+    let w = c .before .before .before .before .before .before .from-tags .ensures in
+    let s = c .refusal-out .ensures in (
+      s .0 ∙ ap (λ (r : Refusal). r .number) (w .0),
+      (w .1, (s .1 .0 ∙ ap (λ (r : Refusal). r .line) (w .0), (s .1 .1 .0 ∙ ap (λ (r : Refusal). r .start) (w .0), s .1 .1 .1 ∙ ap (λ (r : Refusal). r .size) (w .0)))),
+    )
+
+pub graph-name-from-tags-spec : {M : Type 1} → statement M
+graph-name-from-tags-spec =
+    tie.close (tie.spec from-tags-requires refusal-out-requires same-length returns)
