@@ -78,7 +78,7 @@ any-insert n (m ∷ ms) = go (compareBytes n m) refl (any-insert n ms)
 
 -- ------------------------------------------------------------------ the counts
 
-length-shown : (ns : List Bytes) (k : ℕ) (xs : List ℕ) → k ≤ length xs → length (map (pairIn ns) (pairsIn k xs)) ≡ k
+pub length-shown : (ns : List Bytes) (k : ℕ) (xs : List ℕ) → k ≤ length xs → length (map (pairIn ns) (pairsIn k xs)) ≡ k
 length-shown ns k xs h = length-map (pairsIn k xs) (pairIn ns) ∙ length-map (take k xs) placesOf ∙ length-take-le k xs h
 
 pub judge-tables : (t : Tables) (o : Option Bytes) → Good t

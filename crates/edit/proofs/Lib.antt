@@ -13,3 +13,5 @@ pub mod Stored
 pub mod Total
 pub mod Judge
 pub mod Records
+pub mod Merge
+pub mod MergeAll

@@ -1,5 +1,7 @@
 // Making and changing records: the working tables that reading, adding and merging share, and the operations on record buffers.
 mod judging;
+mod merging;
+mod operations;
 mod sorted;
 mod storing;
 mod tables;
