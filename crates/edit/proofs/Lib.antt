@@ -15,3 +15,6 @@ pub mod Judge
 pub mod Records
 pub mod Merge
 pub mod MergeAll
+pub mod Openings
+pub mod Changes
+pub mod Adding

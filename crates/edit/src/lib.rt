@@ -7,6 +7,12 @@ mod storing;
 mod tables;
 
 pub use judging::judged;
+pub use operations::add_relationships;
+pub use operations::add_subgraph;
+pub use operations::add_translation;
+pub use operations::add_translation_to;
+pub use operations::make_subgraph_of;
+pub use operations::new;
 pub use storing::store;
 pub use tables::Placed;
 pub use tables::Sizes;
