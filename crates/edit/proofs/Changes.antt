@@ -5,23 +5,24 @@ use mathlib.Core.List.{[], _∷_}
 use mathlib.Core.Option.{Option, some, none}
 use Prim.Native.Nat.{ℕ, zero, suc, _+_, _-_, _≤_, _<_}
 use native.Mathlib.Omega.{arith}
-use lib.ListN.{length, length-append, replicate}
+use lib.ListN.{length, length-append, replicate, length-replicate}
 use lib.Dec.{ltb}
 use borrow.Author.Tests.{lt-ltb, le-ltb, eq-eqb, ne-eqb}
 use Rattle.model.specs.declared.Kind.{Kind}
 use Rattle.model.specs.declared.Kind.the-variants.{Subgraph, Translation}
-use Rattle.model.specs.Bytes.{Bytes, compareBytes}
+use Rattle.model.specs.Bytes.{Bytes, compareBytes, put}
 use Rattle.model.specs.Numbers.{number}
 use Rattle.model.specs.Record.{Pair, GraphName, insert, insertAll, empty, withName, withPair, withRelationships, names, anyLong, judge, bodies}
 use Rattle.model.specs.Layout.{nameAt, ownAt, shown, encode}
-use Rattle.model.specs.Outcome.{Outcome, keptOr, freshOr, related}
+use Rattle.model.specs.Outcome.{Outcome, keptOr, freshOr, newRecord, related}
 use Rattle.edit.specs.Tables.{Tables, tables, tableNames, graphIn, Good, PairRoom, PairPut, NamePut, Storable}
 use Rattle.edit.specs.Judging.{owned, Ready}
 use Rattle.edit.specs.Merging.{allOf, MergeRoom, Merged, TableRoom, Loaded}
 use Rattle.edit.proofs.Search.{length-names}
 use Rattle.edit.proofs.Total.{total, total-count, total-bodies, total-insert, total-insertAll}
 use Rattle.edit.proofs.Pairs.{names-withPair}
-use Rattle.edit.proofs.Judge.{any-insert}
+use Rattle.edit.proofs.Judge.{any-insert, ready-own}
+use Rattle.edit.proofs.Stored.{put-whole}
 
 -- ------------------------------------------------------------------ room
 
@@ -183,3 +184,37 @@ module _ (name : Bytes) where
   fresh-short h =
       let l = length-append name [] in
       rw (alone, le-ltb 256 (length name) h, le-ltb 22520 (length (bodies (name ∷ []))) (omega arith))
+
+  module _ (b : Bytes) where
+    pub new-wrong : (length b ≡ 32768 → ⊥) → newRecord name b ≡ record { number = 15; buffer = b }
+    unfolding newRecord
+    new-wrong n = rw (ne-eqb (length b) 32768 n)
+
+    pub new-long : length b ≡ 32768 → 256 < length name → newRecord name b ≡ record { number = 11; buffer = replicate 32768 0 }
+    unfolding newRecord
+    new-long e h = rw (eq-eqb (length b) 32768 e) (fresh-long h)
+
+    pub new-short : length b ≡ 32768 → length name ≤ 256 → newRecord name b ≡ record { number = 0; buffer = encode (withName name empty) }
+    unfolding newRecord
+    new-short e h = rw (eq-eqb (length b) 32768 e) (fresh-short h)
+
+-- a cleared buffer
+pub cleared : (b l : Bytes) → length b ≡ 32768 → l ≡ put b 0 (replicate (length b - 0) 0) → l ≡ replicate 32768 0
+cleared b l e d =
+    let n : length b - 0 ≡ 32768 = omega arith in
+    d ∙ ap (λ (k : ℕ). put b 0 (replicate k 0)) n ∙ put-whole b (replicate 32768 0) (length-replicate {A = ℕ} 32768 0 ∙ sym e)
+
+-- the tables with a name alone can be stored
+pub alone-storable : (t u : Tables) (name : Bytes) (p : ℕ) → Good t → t .sizes .names ≡ 0 → t .sizes .bytes ≡ 0 → t .sizes .subgraph ≡ 0 → t .sizes .translation ≡ 0
+    → length name ≤ 256 → NamePut t name u p → Storable u (p + 1)
+alone-storable t u name p g n b s m h put =
+    let r = ready-own t u name p g put in
+    record {
+      kept = r .kept;
+      own-within = r .own-within;
+      count = omega (arith, put .count);
+      bytes = omega (arith, put .bytes);
+      subgraph = omega (arith, put .subgraph);
+      translation = omega (arith, put .translation);
+      used = r .used;
+    }

@@ -1,3 +1,5 @@
+-- As the function of both kinds.
+use Rattle.model.specs.Outcome.{makeSubgraphOf}
 use borrow.Author.Needs.{needs}
 use Rattle.edit.proofs.operations.make_subgraph_of.Statement.{statement}
 use Rattle.edit.proofs.operations.make_subgraph_of.Tie as tie
@@ -5,17 +7,15 @@ use Rattle.edit.proofs.operations.make_subgraph_of.Reads as reads
 use Rattle.edit.proofs.operations.make_subgraph_of.Lts as lts
 use Rattle.edit.proofs.operations.relate_to.Reads as relate-to-reads
 
--- src/operations.rt:165:5
 relate-to-requires : tie.Need-relate-to-requires
 relate-to-requires c κs = search needs
 
--- src/operations.rt:161:1
 same-length : tie.Need-same-length
 same-length c = search needs
 
--- src/operations.rt:161:1
 returns : tie.Need-returns
-returns c = ?
+unfolding makeSubgraphOf
+returns c = c .before .before .relate-to .ensures
 
 pub make-subgraph-of-spec : {M : Type 1} → statement M
 make-subgraph-of-spec = tie.close (tie.spec relate-to-requires same-length returns)

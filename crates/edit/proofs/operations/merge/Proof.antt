@@ -1,3 +1,17 @@
+-- The record's pairs are read, the other's are put in, and what is within the sizes is kept.
+use mathlib.Core.Path.{_≡_, refl, sym, ap, _∙_}
+use Prim.Native.Nat.{_≤_, _-_, _<_}
+use lib.ListN.{length}
+use Rattle.model.specs.Bytes.{Bytes}
+use Rattle.model.specs.Layout.{nameAt, shown}
+use Rattle.model.specs.Numbers.{number}
+use Rattle.model.specs.Record.{GraphName, withPair, withRelationships}
+use Rattle.model.specs.Outcome.{Outcome, keptOr}
+use Rattle.edit.specs.Tables.{Tables, tables, graphIn}
+use Rattle.edit.specs.Merging.{TableRoom}
+use Rattle.edit.proofs.Records.{sizes-of}
+use Rattle.edit.proofs.Changes.{all-count, all-bytes, merge-room, kept-all}
+use native.Mathlib.Omega.{arith}
 use borrow.Author.Needs.{needs}
 use Rattle.edit.proofs.operations.merge.Statement.{statement}
 use Rattle.edit.proofs.operations.merge.Tie as tie
@@ -10,57 +24,66 @@ use Rattle.edit.proofs.tables.name_table.Reads as name-table-reads
 use Rattle.edit.proofs.tables.pair_table.Reads as pair-table-reads
 use Rattle.edit.proofs.tables.pool.Reads as pool-reads
 
--- src/operations.rt:92:21
 name-table-requires : tie.Need-name-table-requires
 name-table-requires c κs = search needs
 
--- src/operations.rt:93:24
 pair-table-requires : tie.Need-pair-table-requires
 pair-table-requires c κs = search needs
 
--- src/operations.rt:94:27
 pair-table-requires-2 : tie.Need-pair-table-requires-2
 pair-table-requires-2 c κs = search needs
 
--- src/operations.rt:95:22
 pool-requires : tie.Need-pool-requires
 pool-requires c κs = search needs
 
--- src/operations.rt:96:9
 slice-aggregate-refs : tie.Need-slice-aggregate-refs
 slice-aggregate-refs c = search needs
 
--- src/operations.rt:97:9
 slice-aggregate-subs : tie.Need-slice-aggregate-subs
 slice-aggregate-subs c = search needs
 
--- src/operations.rt:98:9
 slice-aggregate-trans : tie.Need-slice-aggregate-trans
 slice-aggregate-trans c = search needs
 
--- src/operations.rt:99:9
 slice-aggregate-bytes : tie.Need-slice-aggregate-bytes
 slice-aggregate-bytes c = search needs
 
--- src/operations.rt:100:9
 load-requires : tie.Need-load-requires
 load-requires c κs = search needs
 
--- src/operations.rt:101:9
 add-all-requires : tie.Need-add-all-requires
-add-all-requires c κs = ?
+add-all-requires c κs =
+    let s = c .before .before .before .before .before .before .before .before .before .before .before .before .before .before .before .before .before .before .before .before .before .before .before .before .before .before .before .before in
+    let a = s .args in
+    let l = c .before .before .before .before .before .before .before .before .before .before .before .before .load in
+    let room : TableRoom (l .last .0) (l .last .1 .0) (l .last .1 .1 .0) (l .last .1 .1 .1 .0) = record { refs-long = l .kept .0 ∙ c .before .before .before .before .before .before .before .before .before .before .before .before .before .before .before .before .before .before .before .before .before .before .before .before .before .name-table .ensures; subs-long = l .kept .1 .0 ∙ c .before .before .before .before .before .before .before .before .before .before .before .before .before .before .before .before .before .before .before .before .before .before .before .before .pair-table .ensures; trans-long = l .kept .1 .1 .0 ∙ c .before .before .before .before .before .before .before .before .before .before .before .before .before .before .before .before .before .before .before .before .before .before .before .pair-table2 .ensures; pool-long = l .kept .1 .1 .1 .0 ∙ c .before .before .before .before .before .before .before .before .before .before .before .before .before .before .before .before .before .before .before .before .before .before .pool .ensures } in
+    let z = sizes-of (a .other .now) (s .pre .1) in
+    ((l .ensures .good, s .pre .1), merge-room (tables (l .last .0) (l .last .1 .0) (l .last .1 .1 .0) (l .last .1 .1 .1 .0) (l .result)) room (shown (a .buffer .now)) (shown (a .other .now)) (l .ensures) (z .count) (z .room) (z .subgraphs) (z .translations))
 
--- src/operations.rt:102:5
 keep-named-requires : tie.Need-keep-named-requires
-keep-named-requires c κs = ?
+keep-named-requires c κs =
+    let s = c .before .before .before .before .before .before .before .before .before .before .before .before .before .before .before .before .before .before .before .before .before .before .before .before .before .before .before .before .before .before .before .before .before .before .before .before .before .before in
+    let a = s .args in
+    let l = c .before .before .before .before .before .before .before .before .before .before .before .before .before .before .before .before .before .before .before .before .before .before .load in
+    let room : TableRoom (l .last .0) (l .last .1 .0) (l .last .1 .1 .0) (l .last .1 .1 .1 .0) = record { refs-long = l .kept .0 ∙ c .before .before .before .before .before .before .before .before .before .before .before .before .before .before .before .before .before .before .before .before .before .before .before .before .before .before .before .before .before .before .before .before .before .before .before .name-table .ensures; subs-long = l .kept .1 .0 ∙ c .before .before .before .before .before .before .before .before .before .before .before .before .before .before .before .before .before .before .before .before .before .before .before .before .before .before .before .before .before .before .before .before .before .before .pair-table .ensures; trans-long = l .kept .1 .1 .0 ∙ c .before .before .before .before .before .before .before .before .before .before .before .before .before .before .before .before .before .before .before .before .before .before .before .before .before .before .before .before .before .before .before .before .before .pair-table2 .ensures; pool-long = l .kept .1 .1 .1 .0 ∙ c .before .before .before .before .before .before .before .before .before .before .before .before .before .before .before .before .before .before .before .before .before .before .before .before .before .before .before .before .before .before .before .before .pool .ensures } in
+    let z = sizes-of (a .other .now) (s .pre .1) in
+    let m = c .before .before .before .before .before .before .before .before .before .add-all in
+    let n = all-count (tables (l .last .0) (l .last .1 .0) (l .last .1 .1 .0) (l .last .1 .1 .1 .0) (l .result)) room (shown (a .buffer .now)) (shown (a .other .now)) (l .ensures) (z .count) (z .room) (z .subgraphs) (z .translations) in
+    let b = all-bytes (tables (l .last .0) (l .last .1 .0) (l .last .1 .1 .0) (l .last .1 .1 .1 .0) (l .result)) room (shown (a .buffer .now)) (shown (a .other .now)) (l .ensures) (z .count) (z .room) (z .subgraphs) (z .translations) in
+    ((m .ensures .good, s .pre .0), (omega (arith, m .ensures .count, n, m .kept .0, room .refs-long), omega (arith, m .ensures .bytes, b, m .kept .1 .1 .1 .0, room .pool-long)))
 
--- src/operations.rt:87:1
 same-length : tie.Need-same-length
 same-length c = search needs
 
--- src/operations.rt:87:1
 returns : tie.Need-returns
-returns c = ?
+returns c =
+    let s = c .before .before .before .before .before .before .before .before .before .before .before .before .before .before .before .before .before .before .before .before .before .before .before .before .before .before .before .before .before .before .before .before .before .before .before .before .before .before .before .before .before .before .before .before .before in
+    let a = s .args in
+    let l = c .before .before .before .before .before .before .before .before .before .before .before .before .before .before .before .before .before .before .before .before .before .before .before .before .before .before .before .before .before .load in
+    let m = c .before .before .before .before .before .before .before .before .before .before .before .before .before .before .before .before .add-all in
+    let k = c .before .before .before .before .before .before .keep-named .ensures in
+    let e = kept-all (a .buffer .now) (graphIn (tables (m .last .0) (m .last .1 .0) (m .last .1 .1 .0) (m .last .1 .1 .1 .0) (m .result))) (shown (a .other .now)) (m .ensures .graph ∙ ap (withRelationships (shown (a .other .now))) (l .ensures .graph)) in
+    (k .0 ∙ ap (λ (g : GraphName). keptOr (a .buffer .now) g .number) e, k .1 ∙ ap (λ (g : GraphName). keptOr (a .buffer .now) g .buffer) e)
 
 pub merge-spec : {M : Type 1} → statement M
 merge-spec =
