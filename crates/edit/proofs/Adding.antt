@@ -7,7 +7,7 @@ use lib.Dec.{ltb}
 use borrow.Author.Tests.{lt-ltb}
 use Rattle.model.specs.declared.Kind.{Kind}
 use Rattle.model.specs.Bytes.{Bytes, isEmpty}
-use Rattle.model.specs.Record.{GraphName, withPair, names, anyLong}
+use Rattle.model.specs.Record.{GraphName, withPair}
 use Rattle.model.specs.Layout.{shown, decode}
 use Rattle.model.specs.Questions.{isSome, faultOf}
 use Rattle.model.specs.Outcome.{Outcome, keptOr, addPair}

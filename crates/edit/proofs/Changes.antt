@@ -1,6 +1,6 @@
 -- The changes that the operations make of the tables: the room that they have, and the graph name that they keep.
 use mathlib.Core.Path.{_≡_, refl, sym, ap, ap₂, _∙_}
-use mathlib.Core.Bool.{true, false, cond, _||_}
+use mathlib.Core.Bool.{true, _||_}
 use mathlib.Core.List.{[], _∷_}
 use mathlib.Core.Option.{Option, some, none}
 use Prim.Native.Nat.{ℕ, zero, suc, _+_, _-_, _≤_, _<_}
@@ -14,10 +14,10 @@ use Rattle.model.specs.Bytes.{Bytes, compareBytes, put}
 use Rattle.model.specs.Numbers.{number}
 use Rattle.model.specs.Record.{Pair, GraphName, insert, insertAll, empty, withName, withPair, withRelationships, names, anyLong, judge, bodies}
 use Rattle.model.specs.Layout.{nameAt, ownAt, shown, encode}
-use Rattle.model.specs.Outcome.{Outcome, keptOr, freshOr, newRecord, related}
-use Rattle.edit.specs.Tables.{Tables, tables, tableNames, graphIn, Good, PairRoom, PairPut, NamePut, Storable}
-use Rattle.edit.specs.Judging.{owned, Ready}
-use Rattle.edit.specs.Merging.{allOf, MergeRoom, Merged, TableRoom, Loaded}
+use Rattle.model.specs.Outcome.{keptOr, freshOr, newRecord, related}
+use Rattle.edit.specs.Tables.{Tables, tableNames, graphIn, Good, PairRoom, PairPut, NamePut, Storable}
+use Rattle.edit.specs.Judging.{owned}
+use Rattle.edit.specs.Merging.{allOf, MergeRoom, TableRoom, Loaded}
 use Rattle.edit.proofs.Search.{length-names}
 use Rattle.edit.proofs.Total.{total, total-count, total-bodies, total-insert, total-insertAll}
 use Rattle.edit.proofs.Pairs.{names-withPair}

@@ -1,8 +1,8 @@
 -- All pairs of a graph name put into tables: the names never are more than those of both, and the pairs never more than both have.
 use mathlib.Core.Path.{_≡_, refl, sym, ap, _∙_}
 use mathlib.Core.Logic.{_⊎_, inl, inr, ⊎-elim}
-use mathlib.Core.List.{List, [], _∷_, List·Memᴰ, List·Memᴰ·head}
-use Prim.Native.Nat.{ℕ, suc, _+_, _≤_, _<_}
+use mathlib.Core.List.{List, [], _∷_, List·Memᴰ}
+use Prim.Native.Nat.{ℕ, _+_, _≤_, _<_}
 use native.Mathlib.Omega.{arith}
 use native.Mathlib.Numerals.{add-one}
 use lib.ListN.{length, drop, getD, drop-of-length-le}
@@ -10,15 +10,15 @@ use lib.Seq.{drop-cons}
 use Rattle.model.specs.declared.Kind.{Kind}
 use Rattle.model.specs.declared.Kind.the-variants.{Subgraph, Translation}
 use Rattle.model.specs.Bytes.{Bytes, compareBytes}
-use Rattle.model.specs.Record.{Pair, GraphName, comparePairs, insert, insertAll, withPair, withRelationships, pairNames, names, bodies}
+use Rattle.model.specs.Record.{Pair, GraphName, comparePairs, insert, withPair, names, bodies}
 use Rattle.model.specs.Questions.{pairsOf}
 use Rattle.model.specs.Statements.{Ascending}
-use Rattle.record.proofs.Names.{names-ascending, pair-listed}
+use Rattle.record.proofs.Names.{pair-listed}
 use Rattle.text.proofs.Order.{bytes-order}
 use Rattle.text.proofs.Ascending.{insert-members, insertAll-ascending, insertAll-members}
 use Rattle.text.proofs.Places.{getD-member}
 use Rattle.edit.specs.Tables.{Tables, tableNames, graphIn, Good, PairRoom, PairPut}
-use Rattle.edit.specs.Merging.{withPairs, subgraphMore, translationMore, allOf, MergeRoom, PairsPut, Merged}
+use Rattle.edit.specs.Merging.{withPairs, subgraphMore, translationMore, allOf, MergeRoom, PairsPut}
 use Rattle.edit.proofs.Search.{length-names}
 use Rattle.edit.proofs.Pairs.{names-withPair, names-pair}
 use Rattle.edit.proofs.Total.{total, total-count, total-bodies, total-insert, total-part}
@@ -184,8 +184,8 @@ module _ (kind : Kind) (t : Tables) (h : GraphName) (start : Good t) (i : ℕ) (
           ⊎-elim
           (λ (d : x ≡ to). listed x (inr d))
           (λ (n : List·Memᴰ x (insert compareBytes from (names (graphIn u)))). ⊎-elim
-              (λ (d : x ≡ from). listed x (inl d))
-              (λ (k : List·Memᴰ x (names (graphIn u))). s .within x (rw (s .good .used) at k))
-              (insert-members bytes-order from (names (graphIn u)) x .0 n))
+          (λ (d : x ≡ from). listed x (inl d))
+          (λ (k : List·Memᴰ x (names (graphIn u))). s .within x (rw (s .good .used) at k))
+          (insert-members bytes-order from (names (graphIn u)) x .0 n))
           (insert-members bytes-order to (insert compareBytes from (names (graphIn u))) x .0
           (rw (sym (p .good .used) ∙ ap names (p .graph) ∙ names-withPair kind (record { from = from; to = to }) (graphIn u)) at m))

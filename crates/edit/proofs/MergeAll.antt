@@ -1,25 +1,22 @@
 -- Both kinds of pairs of a graph name put into tables, and those of a record put into empty ones.
-use mathlib.Core.Path.{_≡_, refl, sym, ap, _∙_}
-use mathlib.Core.Logic.{_⊎_, inl, inr, ⊎-elim}
+use mathlib.Core.Path.{_≡_, refl, ap, _∙_}
+use mathlib.Core.Logic.{inl, ⊎-elim}
 use mathlib.Core.Bool.{true}
 use mathlib.Core.List.{List, [], _∷_, List·Memᴰ, List·Memᴰ·not-nil}
 use mathlib.Core.Option.{none}
-use Prim.Native.Nat.{ℕ, _+_, _≤_, _<_}
+use Prim.Native.Nat.{ℕ, _≤_, _<_}
 use native.Mathlib.Omega.{arith}
-use native.Mathlib.Nat.{add-zero}
 use lib.ListN.{length}
-use Rattle.model.specs.declared.Kind.{Kind}
 use Rattle.model.specs.declared.Kind.the-variants.{Subgraph, Translation}
 use Rattle.model.specs.Bytes.{Bytes, compareBytes}
-use Rattle.model.specs.Record.{Pair, GraphName, comparePairs, insertAll, withRelationships, names, bodies}
+use Rattle.model.specs.Record.{Pair, GraphName, comparePairs, insertAll, names, bodies}
 use Rattle.model.specs.Layout.{shown, decode}
 use Rattle.model.specs.Questions.{isSome}
 use Rattle.model.specs.Statements.{Ascending}
 use Rattle.record.specs.Test.{Under}
 use Rattle.text.proofs.Order.{bytes-order, pairs-order}
-use Rattle.text.proofs.Ascending.{insertAll-ascending, insertAll-members, insertAll-unique}
+use Rattle.text.proofs.Ascending.{insertAll-members, insertAll-unique}
 use Rattle.edit.specs.Tables.{Tables, tables, tableNames, graphIn, Good}
-use Rattle.edit.specs.Judging.{owned}
 use Rattle.edit.specs.Merging.{withPairs, allOf, MergeRoom, PairsPut, Merged, TableRoom, Loaded}
 use Rattle.edit.proofs.Search.{length-names}
 use Rattle.edit.proofs.Total.{total, total-count, total-bodies, total-insertAll}

@@ -1,5 +1,5 @@
 -- Opening buffers: what is wrong with one is the number of the refusal, and where nothing is wrong the change is made of what is shown.
-use mathlib.Core.Path.{_≡_, refl, sym, ap, _∙_}
+use mathlib.Core.Path.{_≡_, refl}
 use mathlib.Core.Bool.{Bool, true, false, cond, _&&_}
 use mathlib.Core.List.{[], _∷_}
 use mathlib.Core.Option.{Option, some, none}

@@ -15,7 +15,15 @@ ghost use Rattle.edit.specs.Tables.{tables, Good};
 ghost use Rattle.edit.specs.Merging.{subgraphMore, translationMore, MergeRoom, PairsPut, Merged, TableRoom, Loaded};
 
 // Puts all pairs of a kind of another record into the tables.
-fn add_pairs(kind: Kind, refs: &mut [u32], subs: &mut [u32], trans: &mut [u32], pool: &mut [u8], sizes: Sizes, other: &[u8]) -> Sizes
+fn add_pairs(
+    kind: Kind,
+    refs: &mut [u32],
+    subs: &mut [u32],
+    trans: &mut [u32],
+    pool: &mut [u8],
+    sizes: Sizes,
+    other: &[u8],
+) -> Sizes
     requires { ⌜ Good (tables (now refs) (now subs) (now trans) (now pool) sizes) × (isSome (decode (now other)) ≡ true) ⌝ }
     requires { ⌜ MergeRoom (tables (now refs) (now subs) (now trans) (now pool) sizes) (shown (now other)) (subgraphMore kind (length (pairsOf kind (shown (now other))))) (translationMore kind (length (pairsOf kind (shown (now other))))) ⌝ }
     ensures { λ r. ⌜ PairsPut kind (tables (now (refs .entry)) (now (subs .entry)) (now (trans .entry)) (now (pool .entry)) sizes) (shown (now (other .entry))) (tables (now (refs .exit)) (now (subs .exit)) (now (trans .exit)) (now (pool .exit)) r) ⌝ }
@@ -35,7 +43,14 @@ fn add_pairs(kind: Kind, refs: &mut [u32], subs: &mut [u32], trans: &mut [u32], 
 }
 
 // Puts all pairs of another record into the tables.
-pub(crate) fn add_all(refs: &mut [u32], subs: &mut [u32], trans: &mut [u32], pool: &mut [u8], sizes: Sizes, other: &[u8]) -> Sizes
+pub(crate) fn add_all(
+    refs: &mut [u32],
+    subs: &mut [u32],
+    trans: &mut [u32],
+    pool: &mut [u8],
+    sizes: Sizes,
+    other: &[u8],
+) -> Sizes
     requires { ⌜ Good (tables (now refs) (now subs) (now trans) (now pool) sizes) × (isSome (decode (now other)) ≡ true) ⌝ }
     requires { ⌜ MergeRoom (tables (now refs) (now subs) (now trans) (now pool) sizes) (shown (now other)) (length (shown (now other) .subgraph)) (length (shown (now other) .translation)) ⌝ }
     ensures { λ r. ⌜ Merged (tables (now (refs .entry)) (now (subs .entry)) (now (trans .entry)) (now (pool .entry)) sizes) (shown (now (other .entry))) (tables (now (refs .exit)) (now (subs .exit)) (now (trans .exit)) (now (pool .exit)) r) ⌝ }
@@ -45,7 +60,13 @@ pub(crate) fn add_all(refs: &mut [u32], subs: &mut [u32], trans: &mut [u32], poo
 }
 
 // Reads a record into the tables, without its own name.
-pub(crate) fn load(refs: &mut [u32], subs: &mut [u32], trans: &mut [u32], pool: &mut [u8], buffer: &[u8]) -> Sizes
+pub(crate) fn load(
+    refs: &mut [u32],
+    subs: &mut [u32],
+    trans: &mut [u32],
+    pool: &mut [u8],
+    buffer: &[u8],
+) -> Sizes
     requires { ⌜ TableRoom (now refs) (now subs) (now trans) (now pool) × (isSome (decode (now buffer)) ≡ true) ⌝ }
     ensures { λ r. ⌜ Loaded (shown (now (buffer .entry))) (tables (now (refs .exit)) (now (subs .exit)) (now (trans .exit)) (now (pool .exit)) r) ⌝ }
 {

@@ -1,15 +1,10 @@
 -- The pairs of one kind, then those of the other.
-use mathlib.Core.Path.{_≡_, refl, sym, ap, _∙_}
-use lib.ListN.{length}
 use Rattle.model.specs.Layout.{shown}
 use Rattle.edit.specs.Tables.{tables}
 use Rattle.edit.proofs.MergeAll.{first-merge, second-merge, merged}
 use borrow.Author.Needs.{needs}
 use Rattle.edit.proofs.merging.add_all.Statement.{statement}
 use Rattle.edit.proofs.merging.add_all.Tie as tie
-use Rattle.edit.proofs.merging.add_all.Reads as reads
-use Rattle.edit.proofs.merging.add_all.Lts as lts
-use Rattle.edit.proofs.merging.add_pairs.Reads as add-pairs-reads
 
 add-pairs-requires : tie.Need-add-pairs-requires
 add-pairs-requires c κs =

@@ -1,9 +1,6 @@
 -- The first i pairs are in, and the names are among those of both.
-use mathlib.Core.Path.{_≡_, refl, sym, ap, _∙_}
-use Prim.Native.Nat.{_+_, _-_, _≤_, _<_}
-use lib.ListN.{length}
+use Prim.Native.Nat.{_-_, _≤_, _<_}
 use Rattle.model.specs.Layout.{shown}
-use Rattle.model.specs.Questions.{pairsOf}
 use Rattle.record.specs.Test.{pairCount}
 use Rattle.edit.specs.Tables.{tables}
 use Rattle.edit.proofs.Merge.{Putting, putting-start, putting-room, putting-turn, putting-end}
@@ -12,13 +9,6 @@ use borrow.Author.Needs.{needs}
 use native.Mathlib.Omega.{arith}
 use Rattle.edit.proofs.merging.add_pairs.Statement.{statement}
 use Rattle.edit.proofs.merging.add_pairs.Tie as tie
-use Rattle.edit.proofs.merging.add_pairs.Reads as reads
-use Rattle.edit.proofs.merging.add_pairs.Lts as lts
-use Rattle.edit.proofs.tables.put_pair.Reads as put-pair-reads
-use Rattle.record.proofs.name_at.Reads as name-at-reads
-use Rattle.record.proofs.pair_count.Reads as pair-count-reads
-use Rattle.record.proofs.table_at.Reads as table-at-reads
-use Rattle.text.proofs.read16.Reads as read16-reads
 
 abbrev Inv-loop : tie.InvT-loop
 Inv-loop kind refs₀ subs₀ trans₀ pool₀ other count at done₀ i₀ refs subs trans pool done i = (i ≤ count) × Putting kind (tables refs₀ subs₀ trans₀ pool₀ done₀) (shown other) i (tables refs subs trans pool done)
@@ -127,9 +117,9 @@ loop-again c =
     let p = c .before .before .before .before .before .before .before .before .put-pair in (
       omega (arith, c .before .before .before .before .before .before .before .before .before .before .before .before .before .before .before .before .before .loop-test .taken),
       putting-turn (a .kind) (tables (a .refs .now) (a .subs .now) (a .trans .now) (a .pool .now) (a .sizes)) (shown (a .other .now)) (s .pre .0 .0) (l .loop .i) (tables (l .loop .refs) (l .loop .subs) (l .loop .trans) (l .loop .pool) (l .loop .done)) (l .loop .inv .1) _ _ _
-      (rw (pairs-counted (a .other .now) (s .pre .0 .1) (a .kind)) (inside l (c .before .before .before .before .before .before .before .before .before .before .before .before .before .before .before .before .before .loop-test .taken)))
-      (pair-read (a .other .now) (s .pre .0 .1) (a .kind) (l .loop .i) (inside l (c .before .before .before .before .before .before .before .before .before .before .before .before .before .before .before .before .before .loop-test .taken)) (l .before .table-at .result) (l .before .table-at .ensures .0) (c .before .before .before .before .before .before .before .before .before .before .before .before .before .before .before .before .read16 .result) (c .before .before .before .before .before .before .before .before .before .before .before .before .before .before .read162 .result) (c .before .before .before .before .before .before .before .before .before .before .before .before .before .before .before .name-at .result .now) (c .before .before .before .before .before .before .before .before .before .before .before .before .before .name-at2 .result .now) (c .before .before .before .before .before .before .before .before .before .before .before .before .before .before .before .before .read16 .ensures .0) (c .before .before .before .before .before .before .before .before .before .before .before .before .before .before .read162 .ensures .0) (c .before .before .before .before .before .before .before .before .before .before .before .before .before .before .before .name-at .ensures) (c .before .before .before .before .before .before .before .before .before .before .before .before .before .name-at2 .ensures))
-      (p .ensures) (p .kept .1 .0) (p .kept .1 .1 .0) (p .kept .1 .1 .1 .0) (p .kept .1 .1 .1 .1 .0),
+          (rw (pairs-counted (a .other .now) (s .pre .0 .1) (a .kind)) (inside l (c .before .before .before .before .before .before .before .before .before .before .before .before .before .before .before .before .before .loop-test .taken)))
+          (pair-read (a .other .now) (s .pre .0 .1) (a .kind) (l .loop .i) (inside l (c .before .before .before .before .before .before .before .before .before .before .before .before .before .before .before .before .before .loop-test .taken)) (l .before .table-at .result) (l .before .table-at .ensures .0) (c .before .before .before .before .before .before .before .before .before .before .before .before .before .before .before .before .read16 .result) (c .before .before .before .before .before .before .before .before .before .before .before .before .before .before .read162 .result) (c .before .before .before .before .before .before .before .before .before .before .before .before .before .before .before .name-at .result .now) (c .before .before .before .before .before .before .before .before .before .before .before .before .before .name-at2 .result .now) (c .before .before .before .before .before .before .before .before .before .before .before .before .before .before .before .before .read16 .ensures .0) (c .before .before .before .before .before .before .before .before .before .before .before .before .before .before .read162 .ensures .0) (c .before .before .before .before .before .before .before .before .before .before .before .before .before .before .before .name-at .ensures) (c .before .before .before .before .before .before .before .before .before .before .before .before .before .name-at2 .ensures))
+          (p .ensures) (p .kept .1 .0) (p .kept .1 .1 .0) (p .kept .1 .1 .1 .0) (p .kept .1 .1 .1 .1 .0),
     )
 
 same-length : tie.Need-same-length Inv-loop μ-loop

@@ -1,14 +1,9 @@
 -- All pairs of a record put into empty tables are its own.
-use mathlib.Core.Path.{_≡_, refl, sym, ap, _∙_}
-use lib.ListN.{length}
 use Rattle.edit.proofs.MergeAll.{empty-good, load-room, loaded}
 use native.Mathlib.Omega.{arith}
 use borrow.Author.Needs.{needs}
 use Rattle.edit.proofs.merging.load.Statement.{statement}
 use Rattle.edit.proofs.merging.load.Tie as tie
-use Rattle.edit.proofs.merging.load.Reads as reads
-use Rattle.edit.proofs.merging.load.Lts as lts
-use Rattle.edit.proofs.merging.add_all.Reads as add-all-reads
 
 add-all-requires : tie.Need-add-all-requires
 add-all-requires c κs =

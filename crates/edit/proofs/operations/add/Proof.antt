@@ -1,15 +1,10 @@
 -- By the tests, in their order.
-use mathlib.Core.Path.{_≡_, refl, sym, ap, _∙_}
+use mathlib.Core.Path.{sym, ap, _∙_}
 use Rattle.model.specs.Outcome.{Outcome}
-use Rattle.edit.proofs.Openings.{opened-done}
 use Rattle.edit.proofs.Adding.{add-refused, add-no-from, add-no-to, add-kept, add-long-from, add-long-to, add-decodes}
 use borrow.Author.Needs.{needs}
 use Rattle.edit.proofs.operations.add.Statement.{statement}
 use Rattle.edit.proofs.operations.add.Tie as tie
-use Rattle.edit.proofs.operations.add.Reads as reads
-use Rattle.edit.proofs.operations.add.Lts as lts
-use Rattle.edit.proofs.operations.add_short.Reads as add-short-reads
-use Rattle.record.proofs.fault.Reads as fault-reads
 
 fault-requires : tie.Need-fault-requires
 fault-requires c κs = search needs

@@ -1,8 +1,5 @@
 -- The record's pairs are read, the pair is put in, and what is within the sizes is kept.
-use mathlib.Core.Path.{_≡_, refl, sym, ap, _∙_}
-use Prim.Native.Nat.{_≤_}
-use lib.ListN.{length}
-use Rattle.model.specs.Layout.{shown}
+use mathlib.Core.Path.{ap, _∙_}
 use Rattle.model.specs.Record.{GraphName, withPair}
 use Rattle.model.specs.Outcome.{keptOr}
 use Rattle.edit.specs.Tables.{tables, graphIn}
@@ -12,14 +9,6 @@ use native.Mathlib.Omega.{arith}
 use borrow.Author.Needs.{needs}
 use Rattle.edit.proofs.operations.add_short.Statement.{statement}
 use Rattle.edit.proofs.operations.add_short.Tie as tie
-use Rattle.edit.proofs.operations.add_short.Reads as reads
-use Rattle.edit.proofs.operations.add_short.Lts as lts
-use Rattle.edit.proofs.judging.keep_named.Reads as keep-named-reads
-use Rattle.edit.proofs.merging.load.Reads as load-reads
-use Rattle.edit.proofs.tables.name_table.Reads as name-table-reads
-use Rattle.edit.proofs.tables.pair_table.Reads as pair-table-reads
-use Rattle.edit.proofs.tables.pool.Reads as pool-reads
-use Rattle.edit.proofs.tables.put_pair.Reads as put-pair-reads
 
 name-table-requires : tie.Need-name-table-requires
 name-table-requires c κs = search needs

@@ -3,9 +3,6 @@ use Rattle.model.specs.Outcome.{addSubgraph}
 use borrow.Author.Needs.{needs}
 use Rattle.edit.proofs.operations.add_subgraph.Statement.{statement}
 use Rattle.edit.proofs.operations.add_subgraph.Tie as tie
-use Rattle.edit.proofs.operations.add_subgraph.Reads as reads
-use Rattle.edit.proofs.operations.add_subgraph.Lts as lts
-use Rattle.edit.proofs.operations.add.Reads as add-reads
 
 add-requires : tie.Need-add-requires
 add-requires c κs = search needs

@@ -3,9 +3,6 @@ use Rattle.model.specs.Outcome.{addTranslation}
 use borrow.Author.Needs.{needs}
 use Rattle.edit.proofs.operations.add_translation.Statement.{statement}
 use Rattle.edit.proofs.operations.add_translation.Tie as tie
-use Rattle.edit.proofs.operations.add_translation.Reads as reads
-use Rattle.edit.proofs.operations.add_translation.Lts as lts
-use Rattle.edit.proofs.operations.add.Reads as add-reads
 
 add-requires : tie.Need-add-requires
 add-requires c κs = search needs

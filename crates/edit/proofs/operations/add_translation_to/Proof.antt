@@ -3,9 +3,6 @@ use Rattle.model.specs.Outcome.{addTranslationTo}
 use borrow.Author.Needs.{needs}
 use Rattle.edit.proofs.operations.add_translation_to.Statement.{statement}
 use Rattle.edit.proofs.operations.add_translation_to.Tie as tie
-use Rattle.edit.proofs.operations.add_translation_to.Reads as reads
-use Rattle.edit.proofs.operations.add_translation_to.Lts as lts
-use Rattle.edit.proofs.operations.relate_to.Reads as relate-to-reads
 
 relate-to-requires : tie.Need-relate-to-requires
 relate-to-requires c κs = search needs

@@ -3,9 +3,6 @@ use Rattle.model.specs.Outcome.{makeSubgraphOf}
 use borrow.Author.Needs.{needs}
 use Rattle.edit.proofs.operations.make_subgraph_of.Statement.{statement}
 use Rattle.edit.proofs.operations.make_subgraph_of.Tie as tie
-use Rattle.edit.proofs.operations.make_subgraph_of.Reads as reads
-use Rattle.edit.proofs.operations.make_subgraph_of.Lts as lts
-use Rattle.edit.proofs.operations.relate_to.Reads as relate-to-reads
 
 relate-to-requires : tie.Need-relate-to-requires
 relate-to-requires c κs = search needs

@@ -1,13 +1,10 @@
 -- The record's pairs are read, the other's are put in, and what is within the sizes is kept.
-use mathlib.Core.Path.{_≡_, refl, sym, ap, _∙_}
-use Prim.Native.Nat.{_≤_, _-_, _<_}
-use lib.ListN.{length}
-use Rattle.model.specs.Bytes.{Bytes}
-use Rattle.model.specs.Layout.{nameAt, shown}
+use mathlib.Core.Path.{ap, _∙_}
+use Rattle.model.specs.Layout.{shown}
 use Rattle.model.specs.Numbers.{number}
-use Rattle.model.specs.Record.{GraphName, withPair, withRelationships}
-use Rattle.model.specs.Outcome.{Outcome, keptOr}
-use Rattle.edit.specs.Tables.{Tables, tables, graphIn}
+use Rattle.model.specs.Record.{GraphName, withRelationships}
+use Rattle.model.specs.Outcome.{keptOr}
+use Rattle.edit.specs.Tables.{tables, graphIn}
 use Rattle.edit.specs.Merging.{TableRoom}
 use Rattle.edit.proofs.Records.{sizes-of}
 use Rattle.edit.proofs.Changes.{all-count, all-bytes, merge-room, kept-all}
@@ -15,14 +12,6 @@ use native.Mathlib.Omega.{arith}
 use borrow.Author.Needs.{needs}
 use Rattle.edit.proofs.operations.merge.Statement.{statement}
 use Rattle.edit.proofs.operations.merge.Tie as tie
-use Rattle.edit.proofs.operations.merge.Reads as reads
-use Rattle.edit.proofs.operations.merge.Lts as lts
-use Rattle.edit.proofs.judging.keep_named.Reads as keep-named-reads
-use Rattle.edit.proofs.merging.add_all.Reads as add-all-reads
-use Rattle.edit.proofs.merging.load.Reads as load-reads
-use Rattle.edit.proofs.tables.name_table.Reads as name-table-reads
-use Rattle.edit.proofs.tables.pair_table.Reads as pair-table-reads
-use Rattle.edit.proofs.tables.pool.Reads as pool-reads
 
 name-table-requires : tie.Need-name-table-requires
 name-table-requires c κs = search needs

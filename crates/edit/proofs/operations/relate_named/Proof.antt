@@ -1,13 +1,12 @@
 -- The record's pairs are read, the parent's and the pair of the own names are put in, and what is within the sizes is kept.
-use mathlib.Core.Path.{_≡_, refl, sym, ap, _∙_}
-use Prim.Native.Nat.{_≤_, _-_, _<_}
+use mathlib.Core.Path.{ap, _∙_}
+use Prim.Native.Nat.{_-_}
 use lib.ListN.{length}
-use Rattle.model.specs.Bytes.{Bytes}
-use Rattle.model.specs.Layout.{nameAt, shown}
+use Rattle.model.specs.Layout.{shown}
 use Rattle.model.specs.Numbers.{number}
 use Rattle.model.specs.Record.{GraphName, withPair, withRelationships}
-use Rattle.model.specs.Outcome.{Outcome, keptOr}
-use Rattle.edit.specs.Tables.{Tables, tables, graphIn}
+use Rattle.model.specs.Outcome.{keptOr}
+use Rattle.edit.specs.Tables.{tables, graphIn}
 use Rattle.edit.specs.Merging.{TableRoom}
 use Rattle.edit.proofs.Records.{is-held, sizes-of, name-short}
 use Rattle.edit.proofs.Changes.{pair-room, pair-count, pair-bytes, all-count, all-bytes, merge-room, kept-both}
@@ -15,16 +14,6 @@ use native.Mathlib.Omega.{arith}
 use borrow.Author.Needs.{needs}
 use Rattle.edit.proofs.operations.relate_named.Statement.{statement}
 use Rattle.edit.proofs.operations.relate_named.Tie as tie
-use Rattle.edit.proofs.operations.relate_named.Reads as reads
-use Rattle.edit.proofs.operations.relate_named.Lts as lts
-use Rattle.edit.proofs.judging.keep_named.Reads as keep-named-reads
-use Rattle.edit.proofs.merging.add_all.Reads as add-all-reads
-use Rattle.edit.proofs.merging.load.Reads as load-reads
-use Rattle.edit.proofs.tables.name_table.Reads as name-table-reads
-use Rattle.edit.proofs.tables.pair_table.Reads as pair-table-reads
-use Rattle.edit.proofs.tables.pool.Reads as pool-reads
-use Rattle.edit.proofs.tables.put_pair.Reads as put-pair-reads
-use Rattle.record.proofs.name_at.Reads as name-at-reads
 
 name-table-requires : tie.Need-name-table-requires
 name-table-requires c κs = search needs
@@ -152,7 +141,7 @@ returns c =
     let y = c .before .before .before .before .before .before .before .before .before .before .before .before .before .before .before .before .before .before .before .before .before .name-at2 .ensures in
     let k = c .before .before .before .before .before .before .keep-named .ensures in
     let e = kept-both (a .buffer .now) (graphIn (tables (p .last .1 .0) (p .last .1 .1 .0) (p .last .1 .1 .1 .0) (p .last .1 .1 .1 .1 .0) (p .result))) (a .kind) _ (shown (a .parent .now))
-        (p .ensures .graph ∙ (λ i. withPair (a .kind) (record { from = x i; to = y i }) (graphIn (tables (m .last .0) (m .last .1 .0) (m .last .1 .1 .0) (m .last .1 .1 .1 .0) (m .result)))) ∙ ap (withPair (a .kind) _) (m .ensures .graph ∙ ap (withRelationships (shown (a .parent .now))) (l .ensures .graph))) in
+    (p .ensures .graph ∙ (λ i. withPair (a .kind) (record { from = x i; to = y i }) (graphIn (tables (m .last .0) (m .last .1 .0) (m .last .1 .1 .0) (m .last .1 .1 .1 .0) (m .result)))) ∙ ap (withPair (a .kind) _) (m .ensures .graph ∙ ap (withRelationships (shown (a .parent .now))) (l .ensures .graph))) in
     (k .0 ∙ ap (λ (g : GraphName). keptOr (a .buffer .now) g .number) e, k .1 ∙ ap (λ (g : GraphName). keptOr (a .buffer .now) g .buffer) e)
 
 pub relate-named-spec : {M : Type 1} → statement M

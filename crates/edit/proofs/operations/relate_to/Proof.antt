@@ -1,59 +1,84 @@
+-- By the test of both buffers and of both own names.
+use mathlib.Core.Path.{sym, ap, _∙_}
+use Rattle.model.specs.Layout.{shown}
+use Rattle.model.specs.Outcome.{Outcome, related}
+use Rattle.edit.proofs.Openings.{both-refused, both-done}
+use Rattle.edit.proofs.Records.{is-held}
+use Rattle.edit.proofs.Changes.{related-done, related-unnamed, related-parentless}
+use native.Mathlib.Omega.{arith}
 use borrow.Author.Needs.{needs}
 use Rattle.edit.proofs.operations.relate_to.Statement.{statement}
 use Rattle.edit.proofs.operations.relate_to.Tie as tie
-use Rattle.edit.proofs.operations.relate_to.Reads as reads
-use Rattle.edit.proofs.operations.relate_to.Lts as lts
-use Rattle.edit.proofs.operations.relate_named.Reads as relate-named-reads
-use Rattle.record.proofs.fault_of_both.Reads as fault-of-both-reads
-use Rattle.text.proofs.read16.Reads as read16-reads
 
--- src/operations.rt:145:9
 fault-of-both-requires : tie.Need-fault-of-both-requires
 fault-of-both-requires c κs = search needs
 
--- src/operations.rt:147:9
 same-length : tie.Need-same-length
 same-length c = search needs
 
--- src/operations.rt:147:9
 returns : tie.Need-returns
-returns c = ?
+returns c =
+    let s = c .before .before .before .before .before in
+    let a = s .args in
+    let f = c .before .fault-of-both .ensures in
+    let e = both-refused (a .buffer .now) (a .parent .now) (λ g h. related (a .kind) (a .buffer .now) g h (g .name) (h .name)) (λ z. c .if1 .taken (f ∙ z)) in
+    (f ∙ sym (ap (λ (o : Outcome). o .number) e), sym (ap (λ (o : Outcome). o .buffer) e))
 
--- src/operations.rt:149:9
 read16-requires : tie.Need-read16-requires
-read16-requires c κs = ?
+read16-requires c κs =
+    let s = c .before .before .before .before .before .before in
+    let a = s .args in
+    let d = both-done (a .buffer .now) (a .parent .now) (λ g h. related (a .kind) (a .buffer .now) g h (g .name) (h .name)) (sym (c .before .before .fault-of-both .ensures) ∙ c .before .if1 .left) in
+    omega (arith, is-held (a .buffer .now) (d .0) .long)
 
--- src/operations.rt:151:9
 same-length-2 : tie.Need-same-length-2
 same-length-2 c = search needs
 
--- src/operations.rt:151:9
 returns-2 : tie.Need-returns-2
-returns-2 c = ?
+returns-2 c =
+    let s = c .before .before .before .before .before .before .before .before in
+    let a = s .args in
+    let e = both-done (a .buffer .now) (a .parent .now) (λ g h. related (a .kind) (a .buffer .now) g h (g .name) (h .name)) (sym (c .before .before .before .before .fault-of-both .ensures) ∙ c .before .before .before .if1 .left) .2 ∙ related-unnamed (a .kind) (a .buffer .now) (a .parent .now) (shown (a .buffer .now)) (shown (a .parent .now)) (sym (c .before .read16 .ensures .0) ∙ c .if2 .taken) in
+    (sym (ap (λ (o : Outcome). o .number) e), sym (ap (λ (o : Outcome). o .buffer) e))
 
--- src/operations.rt:153:9
 read16-requires-2 : tie.Need-read16-requires-2
-read16-requires-2 c κs = ?
+read16-requires-2 c κs =
+    let s = c .before .before .before .before .before .before .before .before in
+    let a = s .args in
+    let d = both-done (a .buffer .now) (a .parent .now) (λ g h. related (a .kind) (a .buffer .now) g h (g .name) (h .name)) (sym (c .before .before .before .before .fault-of-both .ensures) ∙ c .before .before .before .if1 .left) in
+    omega (arith, is-held (a .parent .now) (d .1) .long)
 
--- src/operations.rt:155:9
 same-length-3 : tie.Need-same-length-3
 same-length-3 c = search needs
 
--- src/operations.rt:155:9
 returns-3 : tie.Need-returns-3
-returns-3 c = ?
+returns-3 c =
+    let s = c .before .before .before .before .before .before .before .before .before .before in
+    let a = s .args in
+    let e = both-done (a .buffer .now) (a .parent .now) (λ g h. related (a .kind) (a .buffer .now) g h (g .name) (h .name)) (sym (c .before .before .before .before .before .before .fault-of-both .ensures) ∙ c .before .before .before .before .before .if1 .left) .2 ∙ related-parentless (a .kind) (a .buffer .now) (a .parent .now) (shown (a .buffer .now)) (shown (a .parent .now)) (sym (c .before .read162 .ensures .0) ∙ c .if3 .taken) in
+    (sym (ap (λ (o : Outcome). o .number) e), sym (ap (λ (o : Outcome). o .buffer) e))
 
--- src/operations.rt:157:5
 relate-named-requires : tie.Need-relate-named-requires
-relate-named-requires c κs = ?
+relate-named-requires c κs =
+    let s = c .before .before .before .before .before .before .before .before .before .before .before in
+    let a = s .args in
+    let d = both-done (a .buffer .now) (a .parent .now) (λ g h. related (a .kind) (a .buffer .now) g h (g .name) (h .name)) (sym (c .before .before .before .before .before .before .before .fault-of-both .ensures) ∙ c .before .before .before .before .before .before .if1 .left) in
+    let x = c .before .before .before .before .read16 .ensures .0 in
+    let y = c .before .before .read162 .ensures .0 in
+    ((d .0, d .1), (omega (arith, c .before .before .before .if2 .left), x, omega (arith, c .before .if3 .left), y))
 
--- src/operations.rt:141:1
 same-length-4 : tie.Need-same-length-4
 same-length-4 c = search needs
 
--- src/operations.rt:141:1
 returns-4 : tie.Need-returns-4
-returns-4 c = ?
+returns-4 c =
+    let s = c .before .before .before .before .before .before .before .before .before .before .before .before .before .before in
+    let a = s .args in
+    let x = c .before .before .before .before .before .before .before .read16 in
+    let y = c .before .before .before .before .before .read162 in
+    let e = both-done (a .buffer .now) (a .parent .now) (λ g h. related (a .kind) (a .buffer .now) g h (g .name) (h .name)) (sym (c .before .before .before .before .before .before .before .before .before .before .fault-of-both .ensures) ∙ c .before .before .before .before .before .before .before .before .before .if1 .left) .2 ∙ related-done (a .kind) (a .buffer .now) (a .parent .now) (x .result) (y .result) (c .before .before .before .before .before .before .if2 .left) (x .ensures .0) (c .before .before .before .before .if3 .left) (y .ensures .0) in
+    let r = c .before .before .relate-named .ensures in
+    (r .0 ∙ sym (ap (λ (o : Outcome). o .number) e), r .1 ∙ sym (ap (λ (o : Outcome). o .buffer) e))
 
 pub relate-to-spec : {M : Type 1} → statement M
 relate-to-spec =
