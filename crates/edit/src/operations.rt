@@ -39,8 +39,8 @@ fn add_short(kind: Kind, buffer: &mut [u8], from: &[u8], to: &[u8]) -> u32
     let trans: &mut [u32] = &mut translation;
     let bytes: &mut [u8] = &mut bodies;
     let sizes = load(refs, subs, trans, bytes, buffer);
-    let more = put_pair(kind, refs, subs, trans, bytes, sizes, from, to);
-    keep_named(buffer, refs, subs, trans, bytes, more)
+    let added = put_pair(kind, refs, subs, trans, bytes, sizes, from, to);
+    keep_named(buffer, refs, subs, trans, bytes, added)
 }
 
 // Adds a pair of a kind to a record, unless either name is empty.
@@ -98,8 +98,8 @@ fn merge(buffer: &mut [u8], other: &[u8]) -> u32
     let trans: &mut [u32] = &mut translation;
     let bytes: &mut [u8] = &mut bodies;
     let sizes = load(refs, subs, trans, bytes, buffer);
-    let more = add_all(refs, subs, trans, bytes, sizes, other);
-    keep_named(buffer, refs, subs, trans, bytes, more)
+    let all = add_all(refs, subs, trans, bytes, sizes, other);
+    keep_named(buffer, refs, subs, trans, bytes, all)
 }
 
 // Adds all pairs of another record to a record, and no own name.
