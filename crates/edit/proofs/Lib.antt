@@ -13,3 +13,8 @@ pub mod Stored
 pub mod Total
 pub mod Judge
 pub mod Records
+pub mod Merge
+pub mod MergeAll
+pub mod Openings
+pub mod Changes
+pub mod Adding

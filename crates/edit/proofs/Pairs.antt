@@ -27,10 +27,10 @@ insert-map cmp cmp′ f x (y ∷ ys) h =
 
 -- ------------------------------------------------------------------ the names of pairs
 
-abbrev Names : Pair → Bytes → Type 0
+abbrev pub Names : Pair → Bytes → Type 0
 Names p x = (x ≡ p .from) ⊎ (x ≡ p .to)
 
-names-pair : (x : Bytes) (ps : List Pair) (p : Pair) → List·Memᴰ p ps → Names p x → List·Memᴰ x (pairNames ps)
+pub names-pair : (x : Bytes) (ps : List Pair) (p : Pair) → List·Memᴰ p ps → Names p x → List·Memᴰ x (pairNames ps)
 names-pair x [] p m n = absurd (List·Memᴰ·not-nil m)
 names-pair x (q ∷ qs) p m n =
     ⊎-elim

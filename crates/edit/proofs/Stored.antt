@@ -30,7 +30,7 @@ joined b l k w v p d e f h =
     let n = zero-add (length w + length v) in
     rw (f, d, e) (rw z at (put-append b 0 w v (omega arith)))
 
-put-whole : (b w : Bytes) → length w ≡ length b → put b 0 w ≡ w
+pub put-whole : (b w : Bytes) → length w ≡ length b → put b 0 w ≡ w
 unfolding put
 put-whole b w h = rw (zero-add (length w), drop-of-length-le b {i = length w} (omega arith), append-nil w)
 

@@ -27,7 +27,7 @@ total-bodies [] = refl
 total-bodies (n ∷ ns) = omega (arith, total-bodies ns, length-append n (bodies ns))
 
 module _ {A : Type 0} (cmp : A → A → Order) (f : A → ℕ) where
-  total-insert : (x : A) (ys : List A) → total f (insert cmp x ys) ≤ f x + total f ys
+  pub total-insert : (x : A) (ys : List A) → total f (insert cmp x ys) ≤ f x + total f ys
   unfolding insert
   total-insert x [] = omega arith
   total-insert x (y ∷ ys) = go (cmp x y) (total-insert x ys)

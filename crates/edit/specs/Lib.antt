@@ -1,3 +1,4 @@
 pub mod Sorted
 pub mod Tables
 pub mod Judging
+pub mod Merging

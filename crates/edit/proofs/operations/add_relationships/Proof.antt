@@ -1,0 +1,47 @@
+-- By the test of both buffers.
+use mathlib.Core.Path.{sym, ap, _∙_}
+use Rattle.model.specs.Record.{withRelationships}
+use Rattle.model.specs.Outcome.{Outcome, keptOr, addRelationships}
+use Rattle.edit.proofs.Openings.{both-refused, both-done}
+use borrow.Author.Needs.{needs}
+use Rattle.edit.proofs.operations.add_relationships.Statement.{statement}
+use Rattle.edit.proofs.operations.add_relationships.Tie as tie
+
+fault-of-both-requires : tie.Need-fault-of-both-requires
+fault-of-both-requires c κs = search needs
+
+same-length : tie.Need-same-length
+same-length c = search needs
+
+returns : tie.Need-returns
+unfolding addRelationships
+returns c =
+    let s = c .before .before .before .before .before in
+    let a = s .args in
+    let f = c .before .fault-of-both .ensures in
+    let e = both-refused (a .buffer .now) (a .other .now) (λ g h. keptOr (a .buffer .now) (withRelationships h g)) (λ z. c .if1 .taken (f ∙ z)) in
+    (f ∙ sym (ap (λ (o : Outcome). o .number) e), sym (ap (λ (o : Outcome). o .buffer) e))
+
+merge-requires : tie.Need-merge-requires
+merge-requires c κs =
+    let s = c .before .before .before .before .before .before in
+    let a = s .args in
+    let d = both-done (a .buffer .now) (a .other .now) (λ g h. keptOr (a .buffer .now) (withRelationships h g)) (sym (c .before .before .fault-of-both .ensures) ∙ c .before .if1 .left) in
+    (d .0, d .1)
+
+same-length-2 : tie.Need-same-length-2
+same-length-2 c = search needs
+
+returns-2 : tie.Need-returns-2
+unfolding addRelationships
+returns-2 c =
+    let s = c .before .before .before .before .before .before .before .before .before in
+    let a = s .args in
+    let e = both-done (a .buffer .now) (a .other .now) (λ g h. keptOr (a .buffer .now) (withRelationships h g)) (sym (c .before .before .before .before .before .fault-of-both .ensures) ∙ c .before .before .before .before .if1 .left) .2 in
+    let r = c .before .before .merge .ensures in
+    (r .0 ∙ sym (ap (λ (o : Outcome). o .number) e), r .1 ∙ sym (ap (λ (o : Outcome). o .buffer) e))
+
+pub add-relationships-spec : {M : Type 1} → statement M
+add-relationships-spec =
+    tie.close
+    (tie.spec fault-of-both-requires same-length returns merge-requires same-length-2 returns-2)

@@ -1,0 +1,18 @@
+-- As the function of both kinds.
+use Rattle.model.specs.Outcome.{addSubgraph}
+use borrow.Author.Needs.{needs}
+use Rattle.edit.proofs.operations.add_subgraph.Statement.{statement}
+use Rattle.edit.proofs.operations.add_subgraph.Tie as tie
+
+add-requires : tie.Need-add-requires
+add-requires c κs = search needs
+
+same-length : tie.Need-same-length
+same-length c = search needs
+
+returns : tie.Need-returns
+unfolding addSubgraph
+returns c = c .before .before .add .ensures
+
+pub add-subgraph-spec : {M : Type 1} → statement M
+add-subgraph-spec = tie.close (tie.spec add-requires same-length returns)

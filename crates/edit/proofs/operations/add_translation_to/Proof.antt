@@ -1,0 +1,18 @@
+-- As the function of both kinds.
+use Rattle.model.specs.Outcome.{addTranslationTo}
+use borrow.Author.Needs.{needs}
+use Rattle.edit.proofs.operations.add_translation_to.Statement.{statement}
+use Rattle.edit.proofs.operations.add_translation_to.Tie as tie
+
+relate-to-requires : tie.Need-relate-to-requires
+relate-to-requires c κs = search needs
+
+same-length : tie.Need-same-length
+same-length c = search needs
+
+returns : tie.Need-returns
+unfolding addTranslationTo
+returns c = c .before .before .relate-to .ensures
+
+pub add-translation-to-spec : {M : Type 1} → statement M
+add-translation-to-spec = tie.close (tie.spec relate-to-requires same-length returns)

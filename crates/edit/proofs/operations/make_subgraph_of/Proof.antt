@@ -1,0 +1,18 @@
+-- As the function of both kinds.
+use Rattle.model.specs.Outcome.{makeSubgraphOf}
+use borrow.Author.Needs.{needs}
+use Rattle.edit.proofs.operations.make_subgraph_of.Statement.{statement}
+use Rattle.edit.proofs.operations.make_subgraph_of.Tie as tie
+
+relate-to-requires : tie.Need-relate-to-requires
+relate-to-requires c κs = search needs
+
+same-length : tie.Need-same-length
+same-length c = search needs
+
+returns : tie.Need-returns
+unfolding makeSubgraphOf
+returns c = c .before .before .relate-to .ensures
+
+pub make-subgraph-of-spec : {M : Type 1} → statement M
+make-subgraph-of-spec = tie.close (tie.spec relate-to-requires same-length returns)

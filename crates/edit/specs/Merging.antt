@@ -1,0 +1,71 @@
+-- The pairs of a record put into tables: the room that they take, and what the tables show then. Assumes nothing.
+use mathlib.Core.Path.{_≡_}
+use mathlib.Core.List.{List, [], _∷_, List·Memᴰ}
+use mathlib.Core.Option.{none}
+use Prim.Native.Nat.{ℕ, _+_, _≤_, _<_}
+use lib.ListN.{length}
+use Rattle.model.specs.declared.Kind.{Kind}
+use Rattle.model.specs.declared.Kind.the-variants.{Subgraph, Translation}
+use Rattle.model.specs.Bytes.{Bytes, compareBytes}
+use Rattle.model.specs.Record.{Pair, GraphName, insertAll, withPair, withRelationships, names, bodies}
+use Rattle.model.specs.Questions.{pairsOf}
+use Rattle.edit.specs.Tables.{Tables, tableNames, graphIn, Good}
+use Rattle.edit.specs.Judging.{owned}
+
+-- pairs of a kind added, one after the other
+abbrev pub withPairs : Kind → List Pair → GraphName → GraphName
+withPairs kind [] g = g
+withPairs kind (p ∷ ps) g = withPairs kind ps (withPair kind p g)
+
+-- how many of k pairs of a kind are of either
+abbrev pub subgraphMore : Kind → ℕ → ℕ
+subgraphMore Subgraph k = k
+subgraphMore Translation k = 0
+
+abbrev pub translationMore : Kind → ℕ → ℕ
+translationMore Subgraph k = 0
+translationMore Translation k = k
+
+-- all names of the tables and of h
+abbrev pub allOf : Tables → GraphName → List Bytes
+allOf t h = insertAll compareBytes (names h) (tableNames t)
+
+-- there is room for all names of h and for these many pairs, and for one pair more
+pub record MergeRoom (t : Tables) (h : GraphName) (s m : ℕ) : Type 0 where
+  pub count : length (allOf t h) + 1 < length (t .refs)
+  pub room : length (bodies (allOf t h)) + 512 ≤ length (t .pool)
+  pub subgraph : t .sizes .subgraph + s < length (t .subs)
+  pub translation : t .sizes .translation + m < length (t .trans)
+
+-- u are the tables t with all pairs of a kind of h
+pub record PairsPut (kind : Kind) (t : Tables) (h : GraphName) (u : Tables) : Type 0 where
+  pub good : Good u
+  pub graph : graphIn u ≡ withPairs kind (pairsOf kind h) (graphIn t)
+  pub within : (x : Bytes) → List·Memᴰ x (tableNames u) → List·Memᴰ x (allOf t h)
+  pub subgraph : u .sizes .subgraph ≤ t .sizes .subgraph + subgraphMore kind (length (pairsOf kind h))
+  pub translation : u .sizes .translation ≤ t .sizes .translation + translationMore kind (length (pairsOf kind h))
+
+-- u are the tables t with all pairs of h, of both kinds
+pub record Merged (t : Tables) (h : GraphName) (u : Tables) : Type 0 where
+  pub good : Good u
+  pub graph : graphIn u ≡ withRelationships h (graphIn t)
+  pub count : u .sizes .names ≤ length (allOf t h)
+  pub bytes : u .sizes .bytes ≤ length (bodies (allOf t h))
+  pub subgraph : u .sizes .subgraph ≤ t .sizes .subgraph + length (h .subgraph)
+  pub translation : u .sizes .translation ≤ t .sizes .translation + length (h .translation)
+
+-- tables as long as the operations lend them
+pub record TableRoom (refs subs trans : List ℕ) (pool : Bytes) : Type 0 where
+  pub refs-long : length refs ≡ 1028
+  pub subs-long : length subs ≡ 2050
+  pub trans-long : length trans ≡ 2050
+  pub pool-long : length pool ≡ 45808
+
+-- u are tables with all pairs of a graph name within the sizes, and nothing else
+pub record Loaded (g : GraphName) (u : Tables) : Type 0 where
+  pub good : Good u
+  pub graph : graphIn u ≡ owned none g
+  pub count : u .sizes .names ≤ 512
+  pub bytes : u .sizes .bytes ≤ 22520
+  pub subgraph : u .sizes .subgraph ≤ 1024
+  pub translation : u .sizes .translation ≤ 1024
