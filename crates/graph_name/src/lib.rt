@@ -2,12 +2,19 @@
 //
 // The result is document 01's number, 0 for done. A number behind a `&mut u64` is written on 0 only. Each promise is an equation with a
 // definition of `model/specs`, on the arguments alone.
+mod edits;
 mod lines;
 mod questions;
 mod readings;
 mod records;
 mod texts;
 
+pub use edits::graph_name_add_relationships;
+pub use edits::graph_name_add_subgraph;
+pub use edits::graph_name_add_translation;
+pub use edits::graph_name_add_translation_to;
+pub use edits::graph_name_make_subgraph_of;
+pub use edits::graph_name_new;
 pub use lines::graph_name_check_strict;
 pub use questions::graph_name_is_subgraph_of;
 pub use questions::graph_name_translates_to;
