@@ -13,6 +13,7 @@ pub mod ReadWrite
 pub mod Shown
 pub mod Laws
 pub mod Access
+pub mod Empty
 pub mod Refusals
 pub mod Parts
 pub mod Answers

@@ -1,0 +1,9 @@
+-- The empty record is all zeros.
+use mathlib.Core.Path.{_≡_, refl}
+use lib.ListN.{replicate}
+use Rattle.model.specs.Record.{empty, insertAll, names}
+use Rattle.model.specs.Layout.{entries, pairPlaces, contents, encode}
+
+pub encode-empty : encode empty ≡ replicate 32768 0
+unfolding encode contents names insertAll entries pairPlaces
+encode-empty = refl
