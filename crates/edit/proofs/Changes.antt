@@ -15,14 +15,14 @@ use Rattle.model.specs.Numbers.{number}
 use Rattle.model.specs.Record.{Pair, GraphName, insert, insertAll, empty, withName, withPair, withRelationships, names, anyLong, judge, bodies}
 use Rattle.model.specs.Layout.{nameAt, ownAt, shown, encode}
 use Rattle.model.specs.Outcome.{keptOr, freshOr, newRecord, related}
-use Rattle.edit.specs.Tables.{Tables, tableNames, graphIn, Good, PairRoom, PairPut, NamePut, Storable}
-use Rattle.edit.specs.Judging.{owned}
+use Rattle.tables.specs.Tables.{Tables, tableNames, graphIn, Good, PairRoom, PairPut, NamePut, Storable}
+use Rattle.tables.specs.Judging.{owned}
 use Rattle.edit.specs.Merging.{allOf, MergeRoom, TableRoom, Loaded}
-use Rattle.edit.proofs.Search.{length-names}
-use Rattle.edit.proofs.Total.{total, total-count, total-bodies, total-insert, total-insertAll}
-use Rattle.edit.proofs.Pairs.{names-withPair}
-use Rattle.edit.proofs.Judge.{any-insert, ready-own}
-use Rattle.edit.proofs.Stored.{put-whole}
+use Rattle.tables.proofs.Search.{length-names}
+use Rattle.tables.proofs.Total.{total, total-count, total-bodies, total-insert, total-insertAll}
+use Rattle.tables.proofs.Pairs.{names-withPair}
+use Rattle.tables.proofs.Judge.{any-insert, ready-own}
+use Rattle.tables.proofs.Stored.{put-whole}
 
 -- ------------------------------------------------------------------ room
 

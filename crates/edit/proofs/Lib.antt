@@ -1,17 +1,3 @@
-pub mod Gap
-pub mod Lower
-pub mod Splice
-pub mod Renumber
-pub mod Front
-pub mod Search
-pub mod Bodies
-pub mod Pairs
-pub mod PutName
-pub mod PutPair
-pub mod Writing
-pub mod Stored
-pub mod Total
-pub mod Judge
 pub mod Records
 pub mod Merge
 pub mod MergeAll

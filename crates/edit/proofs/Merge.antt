@@ -17,12 +17,12 @@ use Rattle.record.proofs.Names.{pair-listed}
 use Rattle.text.proofs.Order.{bytes-order}
 use Rattle.text.proofs.Ascending.{insert-members, insertAll-ascending, insertAll-members}
 use Rattle.text.proofs.Places.{getD-member}
-use Rattle.edit.specs.Tables.{Tables, tableNames, graphIn, Good, PairRoom, PairPut}
+use Rattle.tables.specs.Tables.{Tables, tableNames, graphIn, Good, PairRoom, PairPut}
 use Rattle.edit.specs.Merging.{withPairs, subgraphMore, translationMore, allOf, MergeRoom, PairsPut}
-use Rattle.edit.proofs.Search.{length-names}
-use Rattle.edit.proofs.Pairs.{names-withPair, names-pair}
-use Rattle.edit.proofs.Total.{total, total-count, total-bodies, total-insert, total-part}
-use Rattle.edit.proofs.Judge.{length-shown}
+use Rattle.tables.proofs.Search.{length-names}
+use Rattle.tables.proofs.Pairs.{names-withPair, names-pair}
+use Rattle.tables.proofs.Total.{total, total-count, total-bodies, total-insert, total-part}
+use Rattle.tables.proofs.Judge.{length-shown}
 
 abbrev pub none-pair : Pair
 none-pair = record { from = []; to = [] }

@@ -16,10 +16,10 @@ use Rattle.model.specs.Statements.{Ascending}
 use Rattle.record.specs.Test.{Under}
 use Rattle.text.proofs.Order.{bytes-order, pairs-order}
 use Rattle.text.proofs.Ascending.{insertAll-members, insertAll-unique}
-use Rattle.edit.specs.Tables.{Tables, tables, tableNames, graphIn, Good}
+use Rattle.tables.specs.Tables.{Tables, tables, tableNames, graphIn, Good}
 use Rattle.edit.specs.Merging.{withPairs, allOf, MergeRoom, PairsPut, Merged, TableRoom, Loaded}
-use Rattle.edit.proofs.Search.{length-names}
-use Rattle.edit.proofs.Total.{total, total-count, total-bodies, total-insertAll}
+use Rattle.tables.proofs.Search.{length-names}
+use Rattle.tables.proofs.Total.{total, total-count, total-bodies, total-insertAll}
 use Rattle.edit.proofs.Merge.{fewer, shorter, all-ascending}
 use Rattle.edit.proofs.Records.{is-valid, sizes-of}
 

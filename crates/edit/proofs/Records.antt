@@ -19,7 +19,7 @@ use Rattle.record.proofs.Held.{Held}
 use Rattle.record.proofs.Laws.{decoded, decode-held, decode-shown}
 use Rattle.record.proofs.Access.{name-within, record-pairCount, record-pair, pair-within}
 use Rattle.record.proofs.Sizes.{Sizes, judge-sizes}
-use Rattle.edit.specs.Judging.{owned}
+use Rattle.tables.specs.Judging.{owned}
 use Rattle.edit.proofs.Merge.{none-pair}
 
 module _ (b : Bytes) (v : isSome (decode b) ≡ true) where

@@ -1,4 +1,1 @@
-pub mod Sorted
-pub mod Tables
-pub mod Judging
 pub mod Merging

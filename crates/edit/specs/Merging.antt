@@ -9,8 +9,8 @@ use Rattle.model.specs.declared.Kind.the-variants.{Subgraph, Translation}
 use Rattle.model.specs.Bytes.{Bytes, compareBytes}
 use Rattle.model.specs.Record.{Pair, GraphName, insertAll, withPair, withRelationships, names, bodies}
 use Rattle.model.specs.Questions.{pairsOf}
-use Rattle.edit.specs.Tables.{Tables, tableNames, graphIn, Good}
-use Rattle.edit.specs.Judging.{owned}
+use Rattle.tables.specs.Tables.{Tables, tableNames, graphIn, Good}
+use Rattle.tables.specs.Judging.{owned}
 
 -- pairs of a kind added, one after the other
 abbrev pub withPairs : Kind → List Pair → GraphName → GraphName

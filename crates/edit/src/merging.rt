@@ -1,8 +1,8 @@
 // The pairs of a record put into the tables: reading a record into empty tables, and merging another.
-use crate::tables::Sizes;
-use crate::tables::put_pair;
 use model::Kind;
 use record::name_at;
+use tables::Sizes;
+use tables::put_pair;
 use text::read16;
 ghost use mathlib.Core.Path.{_≡_};
 ghost use mathlib.Core.Bool.{true};
@@ -11,7 +11,7 @@ ghost use Prim.Native.Nat.{_≤_, _<_};
 ghost use lib.ListN.{length};
 ghost use Rattle.model.specs.Layout.{shown, decode};
 ghost use Rattle.model.specs.Questions.{isSome, pairsOf};
-ghost use Rattle.edit.specs.Tables.{tables, Good};
+ghost use Rattle.tables.specs.Tables.{tables, Good};
 ghost use Rattle.edit.specs.Merging.{subgraphMore, translationMore, MergeRoom, PairsPut, Merged, TableRoom, Loaded};
 
 // Puts all pairs of a kind of another record into the tables.

@@ -1,18 +1,18 @@
 // The operations that make and change records. Each gives document 01's number, 0 for done; a refusal leaves the buffer, save that
 // `new` leaves the empty record on 11.
-use crate::judging::keep_named;
+use crate::keeping::keep_named;
 use crate::merging::add_all;
 use crate::merging::load;
-use crate::storing::clear;
-use crate::storing::store;
-use crate::tables::Sizes;
-use crate::tables::name_table;
-use crate::tables::pair_table;
-use crate::tables::pool;
-use crate::tables::put_name;
-use crate::tables::put_pair;
 use model::Kind;
 use record::name_at;
+use tables::Sizes;
+use tables::clear;
+use tables::name_table;
+use tables::pair_table;
+use tables::pool;
+use tables::put_name;
+use tables::put_pair;
+use tables::store;
 use text::read16;
 ghost use mathlib.Core.Path.{_≡_};
 ghost use mathlib.Core.Bool.{true};

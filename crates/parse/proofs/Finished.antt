@@ -12,9 +12,9 @@ use Rattle.model.specs.Statements.{Ascending}
 use Rattle.model.specs.Reading.{fromHeaderLines, Refusal, Reading}
 use Rattle.model.specs.Outcome.{outcomeOf, readingInto, refusalOf, refusalInto}
 use Rattle.record.specs.Test.{Under}
-use Rattle.edit.specs.Tables.{tables, Good}
-use Rattle.edit.specs.declared.tables.Sizes.{Sizes}
-use Rattle.edit.specs.Tables.{Tables}
+use Rattle.tables.specs.Tables.{tables, Good}
+use Rattle.tables.specs.declared.putting.Sizes.{Sizes}
+use Rattle.tables.specs.Tables.{Tables}
 use Rattle.parse.specs.declared.taking.State.{State}
 use Rattle.parse.specs.declared.reading.Ended.{Ended}
 use Rattle.parse.specs.declared.reading.Ended.the-variants.{Done, Refused}

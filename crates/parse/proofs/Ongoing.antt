@@ -9,8 +9,8 @@ use lib.ListN.{length}
 use Rattle.model.specs.Bytes.{Bytes}
 use Rattle.model.specs.Record.{GraphName}
 use Rattle.model.specs.Reading.{Reading, refused, afterTaken, refuse}
-use Rattle.edit.specs.declared.tables.Sizes.{Sizes}
-use Rattle.edit.specs.Tables.{Tables, tables}
+use Rattle.tables.specs.declared.putting.Sizes.{Sizes}
+use Rattle.tables.specs.Tables.{Tables, tables}
 use Rattle.fields.specs.declared.field.Source.{Source}
 use Rattle.fields.specs.declared.field.Source.the-variants.{Header, Tag}
 use Rattle.fields.specs.declared.step.Tally.{Tally}

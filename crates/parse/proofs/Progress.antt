@@ -21,13 +21,13 @@ use Rattle.text.proofs.Order.{bytes-order}
 use Rattle.text.proofs.Ascending.{insert-members, insert-ascending}
 use Rattle.text.proofs.Put.{length-put}
 use Rattle.record.proofs.Sizes.{judge-sizes}
-use Rattle.edit.specs.declared.tables.Sizes.{Sizes}
-use Rattle.edit.specs.Tables.{Tables, tables, namesIn, tableNames, graphIn, Good, PairRoom, PairPut}
-use Rattle.edit.proofs.Search.{length-names}
-use Rattle.edit.specs.Judging.{owned, namesAnd, NamesKept}
-use Rattle.edit.proofs.Pairs.{names-withPair}
-use Rattle.edit.proofs.Total.{total, total-count, total-bodies, total-part}
-use Rattle.edit.proofs.Judge.{names-owned, any-insert, length-shown, judge-tables}
+use Rattle.tables.specs.declared.putting.Sizes.{Sizes}
+use Rattle.tables.specs.Tables.{Tables, tables, namesIn, tableNames, graphIn, Good, PairRoom, PairPut}
+use Rattle.tables.proofs.Search.{length-names}
+use Rattle.tables.specs.Judging.{owned, namesAnd, NamesKept}
+use Rattle.tables.proofs.Pairs.{names-withPair}
+use Rattle.tables.proofs.Total.{total, total-count, total-bodies, total-part}
+use Rattle.tables.proofs.Judge.{names-owned, any-insert, length-shown, judge-tables}
 use Rattle.text.proofs.Tests.{either-true}
 use Rattle.fields.specs.declared.field.Content.{Content}
 use Rattle.fields.specs.declared.field.Content.the-variants.{Fault, Nothing, Name, Relation}

@@ -9,11 +9,11 @@ use Rattle.model.specs.Bytes.{Bytes}
 use Rattle.model.specs.Record.{names, bodies}
 use Rattle.record.proofs.Sizes.{judge-sizes}
 use Rattle.record.specs.Coded.{meaning}
-use Rattle.edit.specs.declared.tables.Sizes.{Sizes}
-use Rattle.edit.specs.Tables.{Tables, tables, tableNames, graphIn, readOut, NameRoom, NamePut, Storable}
-use Rattle.edit.specs.Judging.{owned}
-use Rattle.edit.proofs.Judge.{meaning-own, ready-own}
-use Rattle.edit.proofs.Search.{length-names}
+use Rattle.tables.specs.declared.putting.Sizes.{Sizes}
+use Rattle.tables.specs.Tables.{Tables, tables, tableNames, graphIn, readOut, NameRoom, NamePut, Storable}
+use Rattle.tables.specs.Judging.{owned}
+use Rattle.tables.proofs.Judge.{meaning-own, ready-own}
+use Rattle.tables.proofs.Search.{length-names}
 use Rattle.parse.specs.State.{graphNow, Ready}
 use Rattle.parse.proofs.Progress.{own-some, now-names, in-use}
 

@@ -9,8 +9,8 @@ use Rattle.model.specs.declared.Kind.the-variants.{Subgraph, Translation}
 use Rattle.model.specs.Bytes.{Bytes}
 use Rattle.model.specs.Record.{GraphName, empty, withName}
 use Rattle.model.specs.Reading.{judged, Reading, done, refused, afterReading, nameValue, tagValue, fromTags}
-use Rattle.edit.specs.declared.tables.Sizes.{Sizes}
-use Rattle.edit.specs.Tables.{Tables}
+use Rattle.tables.specs.declared.putting.Sizes.{Sizes}
+use Rattle.tables.specs.Tables.{Tables}
 use Rattle.parse.specs.declared.taking.State.{State}
 use Rattle.parse.specs.declared.taking.FieldTaken.{FieldTaken}
 use Rattle.parse.specs.declared.taking.FieldTaken.the-variants.{Took, Wrong}

@@ -9,9 +9,9 @@ use lib.Dec.{eqb, ltb}
 use Rattle.model.specs.Bytes.{Bytes}
 use Rattle.model.specs.Record.{GraphName, judge}
 use Rattle.model.specs.Reading.{Taken, took, wrong, Reading, done, refused}
-use Rattle.edit.specs.declared.tables.Sizes.{Sizes}
-use Rattle.edit.specs.Tables.{Tables, graphIn, Good}
-use Rattle.edit.specs.Judging.{owned, namesAnd, sizeFault}
+use Rattle.tables.specs.declared.putting.Sizes.{Sizes}
+use Rattle.tables.specs.Tables.{Tables, graphIn, Good}
+use Rattle.tables.specs.Judging.{owned, namesAnd, sizeFault}
 use Rattle.fields.specs.declared.field.Source.{Source}
 use Rattle.fields.specs.declared.field.Source.the-variants.{Header, Tag}
 use Rattle.parse.specs.declared.reading.Ended.{Ended}

@@ -5,7 +5,7 @@ ghost use mathlib.Core.Path.{_≡_};
 ghost use lib.ListN.{length};
 ghost use Rattle.model.specs.Layout.{encode};
 ghost use Rattle.model.specs.Outcome.{outcomeOf, refusalOf};
-ghost use Rattle.edit.specs.Tables.{tables};
+ghost use Rattle.tables.specs.Tables.{tables};
 ghost use Rattle.parse.specs.State.{graphNow, Ready, readingOf, ReadyAtEnd};
 ghost use Rattle.parse.specs.Answers.{refusalIn};
 
@@ -35,10 +35,10 @@ fn store_state(
 {
     let n = state.own;
     if n == 0 {
-        edit::store(refs, subs, trans, pool, state.sizes, 0, buffer);
+        tables::store(refs, subs, trans, pool, state.sizes, 0, buffer);
         return;
     }
-    let placed = edit::put_name(
+    let placed = tables::put_name(
         refs,
         subs,
         trans,
@@ -47,7 +47,7 @@ fn store_state(
         text::part(own, 0, n - 1),
     );
     let place = placed.place;
-    edit::store(refs, subs, trans, pool, placed.sizes, place + 1, buffer);
+    tables::store(refs, subs, trans, pool, placed.sizes, place + 1, buffer);
 }
 
 // Ends a reading: writes the record, or the empty one.
@@ -74,7 +74,7 @@ pub(crate) fn finish(
             start,
             size,
         } => {
-            edit::clear(buffer, 0);
+            tables::clear(buffer, 0);
             Answer::Refused {
                 number,
                 line,

@@ -22,10 +22,10 @@ pub fn from_header_lines(t: &[u8], buffer: &mut [u8]) -> Answer
             size: 0,
         };
     }
-    let mut refs = edit::name_table();
-    let mut subs = edit::pair_table();
-    let mut trans = edit::pair_table();
-    let mut pool = edit::pool();
+    let mut refs = tables::name_table();
+    let mut subs = tables::pair_table();
+    let mut trans = tables::pair_table();
+    let mut pool = tables::pool();
     let mut own = own_buffer();
     let ended = read_text(
         Source::Header,

@@ -6,7 +6,7 @@ use fields::Source;
 use fields::Tally;
 use fields::next;
 ghost use mathlib.Core.Path.{_≡_};
-ghost use Rattle.edit.specs.Tables.{tables};
+ghost use Rattle.tables.specs.Tables.{tables};
 ghost use Rattle.fields.specs.Rest.{restOf};
 ghost use Rattle.parse.specs.State.{graphNow, Ready, firstStop, refusedAs, EndedAs};
 

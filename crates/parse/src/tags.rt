@@ -14,7 +14,7 @@ use model::Kind;
 ghost use mathlib.Core.Path.{_≡_};
 ghost use Rattle.model.specs.Reading.{afterReading, nameValue, tagValue, fromTags};
 ghost use Rattle.model.specs.Outcome.{readTagsInto, refusalInto};
-ghost use Rattle.edit.specs.Tables.{tables};
+ghost use Rattle.tables.specs.Tables.{tables};
 ghost use Rattle.fields.specs.Fields.{addTo, tagNumber};
 ghost use Rattle.parse.specs.State.{Lengths, graphNow, Ready, readingOf, ReadyAtEnd, EndedAs};
 ghost use Rattle.parse.specs.Answers.{refusalIn, given};
@@ -152,10 +152,10 @@ pub fn from_tags(
             size: 0,
         };
     }
-    let mut refs = edit::name_table();
-    let mut subs = edit::pair_table();
-    let mut trans = edit::pair_table();
-    let mut pool = edit::pool();
+    let mut refs = tables::name_table();
+    let mut subs = tables::pair_table();
+    let mut trans = tables::pair_table();
+    let mut pool = tables::pool();
     let mut own = own_buffer();
     let ended = read_tags(
         has_name,

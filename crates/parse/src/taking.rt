@@ -1,15 +1,15 @@
 // A field taken into the working tables: its own name is kept apart, its pair put in, and the sizes judged on what stands then.
-use edit::Sizes;
 use fields::Content;
 use model::Kind;
+use tables::Sizes;
 ghost use mathlib.Core.Path.{_≡_};
 ghost use Prim.Native.Nat.{_+_, _≤_};
 ghost use lib.ListN.{length};
 ghost use Rattle.model.specs.Bytes.{put};
 ghost use Rattle.model.specs.Record.{withPair};
 ghost use Rattle.model.specs.Reading.{judged};
-ghost use Rattle.edit.specs.Judging.{NamesKept};
-ghost use Rattle.edit.specs.Tables.{tables, namesIn};
+ghost use Rattle.tables.specs.Judging.{NamesKept};
+ghost use Rattle.tables.specs.Tables.{tables, namesIn};
 ghost use Rattle.fields.specs.Fields.{apply};
 ghost use Rattle.fields.specs.Contents.{fieldOf, Within};
 ghost use Rattle.parse.specs.State.{nothingTaken, ownOf, graphNow, judgeNames, judgedAs, nameTaken, Ready, TakenAs};
@@ -54,9 +54,9 @@ fn judge(refs: &[u32], pool: &[u8], sizes: Sizes, own: &[u8], n: usize) -> u32
     ensures { λ r. ⌜ r ≡ judgeNames (ownOf (now (own .entry)) n) (namesIn (now (pool .entry)) (sizes .names) (now (refs .entry))) sizes ⌝ }
 {
     if n == 0 {
-        return edit::judged(refs, pool, sizes, false, own);
+        return tables::judged(refs, pool, sizes, false, own);
     }
-    edit::judged(refs, pool, sizes, true, text::part(own, 0, n - 1))
+    tables::judged(refs, pool, sizes, true, text::part(own, 0, n - 1))
 }
 
 // A state, if its sizes allow it.
@@ -113,7 +113,7 @@ fn take_pair(
         return FieldTaken::Wrong(11);
     }
     let n = state.own;
-    let sizes = edit::put_pair(kind, refs, subs, trans, pool, state.sizes, from, to);
+    let sizes = tables::put_pair(kind, refs, subs, trans, pool, state.sizes, from, to);
     judged_state(refs, pool, own, State { sizes, own: n })
 }
 

@@ -1,6 +1,6 @@
 -- The pairs of one kind, then those of the other.
 use Rattle.model.specs.Layout.{shown}
-use Rattle.edit.specs.Tables.{tables}
+use Rattle.tables.specs.Tables.{tables}
 use Rattle.edit.proofs.MergeAll.{first-merge, second-merge, merged}
 use borrow.Author.Needs.{needs}
 use Rattle.edit.proofs.merging.add_all.Statement.{statement}

@@ -2,7 +2,7 @@
 use Prim.Native.Nat.{_-_, _≤_, _<_}
 use Rattle.model.specs.Layout.{shown}
 use Rattle.record.specs.Test.{pairCount}
-use Rattle.edit.specs.Tables.{tables}
+use Rattle.tables.specs.Tables.{tables}
 use Rattle.edit.proofs.Merge.{Putting, putting-start, putting-room, putting-turn, putting-end}
 use Rattle.edit.proofs.Records.{is-held, pairs-counted, pair-inside, places-inside, pair-read, names-read}
 use borrow.Author.Needs.{needs}

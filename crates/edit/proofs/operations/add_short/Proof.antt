@@ -2,7 +2,7 @@
 use mathlib.Core.Path.{ap, _∙_}
 use Rattle.model.specs.Record.{GraphName, withPair}
 use Rattle.model.specs.Outcome.{keptOr}
-use Rattle.edit.specs.Tables.{tables, graphIn}
+use Rattle.tables.specs.Tables.{tables, graphIn}
 use Rattle.edit.specs.Merging.{TableRoom}
 use Rattle.edit.proofs.Changes.{pair-room, pair-count, pair-bytes, kept-pair}
 use native.Mathlib.Omega.{arith}

@@ -4,7 +4,7 @@ use Rattle.model.specs.Layout.{shown}
 use Rattle.model.specs.Numbers.{number}
 use Rattle.model.specs.Record.{GraphName, withRelationships}
 use Rattle.model.specs.Outcome.{keptOr}
-use Rattle.edit.specs.Tables.{tables, graphIn}
+use Rattle.tables.specs.Tables.{tables, graphIn}
 use Rattle.edit.specs.Merging.{TableRoom}
 use Rattle.edit.proofs.Records.{sizes-of}
 use Rattle.edit.proofs.Changes.{all-count, all-bytes, merge-room, kept-all}

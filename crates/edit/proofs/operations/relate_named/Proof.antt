@@ -6,7 +6,7 @@ use Rattle.model.specs.Layout.{shown}
 use Rattle.model.specs.Numbers.{number}
 use Rattle.model.specs.Record.{GraphName, withPair, withRelationships}
 use Rattle.model.specs.Outcome.{keptOr}
-use Rattle.edit.specs.Tables.{tables, graphIn}
+use Rattle.tables.specs.Tables.{tables, graphIn}
 use Rattle.edit.specs.Merging.{TableRoom}
 use Rattle.edit.proofs.Records.{is-held, sizes-of, name-short}
 use Rattle.edit.proofs.Changes.{pair-room, pair-count, pair-bytes, all-count, all-bytes, merge-room, kept-both}

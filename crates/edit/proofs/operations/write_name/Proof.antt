@@ -1,8 +1,8 @@
 -- The name is put into empty tables, and stands at its place.
 use mathlib.Core.Path.{refl, ap, _∙_}
 use Rattle.model.specs.Layout.{encode}
-use Rattle.edit.specs.Tables.{tables}
-use Rattle.edit.proofs.Judge.{meaning-own}
+use Rattle.tables.specs.Tables.{tables}
+use Rattle.tables.proofs.Judge.{meaning-own}
 use Rattle.edit.proofs.MergeAll.{emptyTables, empty-good}
 use Rattle.edit.proofs.Changes.{alone-storable}
 use native.Mathlib.Omega.{arith}

@@ -1,6 +1,6 @@
 -- By how the reading ended (`Finished`).
 use mathlib.Core.Path.{subst}
-use Rattle.edit.specs.Tables.{tables}
+use Rattle.tables.specs.Tables.{tables}
 use Rattle.parse.specs.State.{ReadyAtEnd}
 use Rattle.parse.specs.declared.reading.Ended.{Ended}
 use Rattle.parse.proofs.Finished.{done-ended, refused-ended}

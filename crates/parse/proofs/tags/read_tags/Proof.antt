@@ -1,6 +1,6 @@
 -- One after the other (`TagValues`).
 use mathlib.Core.Path.{_∙_}
-use Rattle.edit.specs.Tables.{tables}
+use Rattle.tables.specs.Tables.{tables}
 use Rattle.parse.specs.Answers.{given}
 use Rattle.parse.proofs.Finished.{nothing-ready, nothing-shown}
 use Rattle.parse.proofs.TagValues.{tags-ended}

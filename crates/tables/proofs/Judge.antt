@@ -1,0 +1,189 @@
+-- The sizes of the graph name that tables show with an own name: the names are counted once, and the rest are counts at hand.
+use mathlib.Core.Path.{_≡_, refl, sym, ap, _∙_}
+use mathlib.Core.Logic.{inl, inr, ⊎-elim}
+use mathlib.Core.Bool.{Bool, true, false, _||_}
+use mathlib.Core.List.{List, [], _∷_, map, List·Memᴰ, List·Memᴰ·head, List·Memᴰ·tail, List·Memᴰ·cases-cons}
+use mathlib.Core.Option.{Option, some, none}
+use Prim.Native.Nat.{ℕ, _+_, _≤_, _<_}
+use native.Mathlib.Omega.{arith}
+use lib.ListN.{length, take, length-map}
+use lib.Seq.{length-take-le}
+use native.Mathlib.Numerals.{add-one}
+use lib.Dec.{ltb}
+use borrow.Author.Tests.{lt-ltb, le-ltb, eq-eqb, ne-eqb}
+use Rattle.model.specs.declared.Order.{Order}
+use Rattle.model.specs.declared.Order.the-variants.{Less, Equal, Greater}
+use Rattle.model.specs.Bytes.{Bytes, byOrder, compareBytes}
+use Rattle.model.specs.Record.{GraphName, insert, names, anyLong, bodies, judge}
+use Rattle.model.specs.Layout.{encode}
+use Rattle.model.specs.Outcome.{keptOr}
+use Rattle.record.specs.Coded.{nameIn, pairIn, meaning}
+use Rattle.model.specs.Statements.{Ascending}
+use Rattle.record.proofs.Sizes.{judge-sizes}
+use Rattle.record.proofs.Names.{allNames, names-ascending, names-members}
+use Rattle.text.proofs.Order.{bytes-order}
+use Rattle.text.proofs.Ascending.{insert-members, insert-ascending, ascending-unique}
+use Rattle.tables.specs.Sorted.{lower}
+use Rattle.tables.specs.Tables.{Tables, tableNames, graphIn, readOut, placesOf, pairsIn, holdsAt, Good, NamePut, Storable}
+use Rattle.tables.specs.Judging.{owned, namesAnd, countFault, sizeFault, Ready}
+use Rattle.tables.proofs.Lower.{lower-le, insert-new, insert-there}
+use Rattle.tables.proofs.Splice.{length-spliced, length-bodies-spliced}
+use Rattle.tables.proofs.Search.{length-names}
+use Rattle.tables.proofs.PutName.{holds-true, holds-false}
+use Rattle.tables.proofs.PutPair.{insert-at-lower}
+
+-- ------------------------------------------------------------------ the names with an own name
+
+pub names-owned : (o : Option Bytes) (g : GraphName) → names (owned o g) ≡ namesAnd o (names (owned none g))
+names-owned none g = refl
+names-owned (some n) g =
+    ascending-unique bytes-order (names (owned (some n) g)) (insert compareBytes n (names (owned none g)))
+    (names-ascending (owned (some n) g))
+    (insert-ascending bytes-order n (names (owned none g)) (names-ascending (owned none g)))
+    (λ x. (there x, back x))
+  where
+    there : (x : Bytes) → List·Memᴰ x (names (owned (some n) g)) → List·Memᴰ x (insert compareBytes n (names (owned none g)))
+    there x m =
+        insert-members bytes-order n (names (owned none g)) x .1
+        (⊎-elim inl (λ (k : List·Memᴰ x (allNames (owned none g))). inr (names-members (owned none g) x .1 k))
+        (List·Memᴰ·cases-cons (names-members (owned (some n) g) x .0 m)))
+
+    back : (x : Bytes) → List·Memᴰ x (insert compareBytes n (names (owned none g))) → List·Memᴰ x (names (owned (some n) g))
+    back x m =
+        names-members (owned (some n) g) x .1
+        (⊎-elim (λ (e : x ≡ n). List·Memᴰ·head e) (λ (k : List·Memᴰ x (names (owned none g))). List·Memᴰ·tail (names-members (owned none g) x .0 k))
+        (insert-members bytes-order n (names (owned none g)) x .0 m))
+
+-- a long name among the names
+either-swap : (s t u : Bool) → s || (t || u) ≡ t || (s || u)
+either-swap true true u = refl
+either-swap true false u = refl
+either-swap false true u = refl
+either-swap false false u = refl
+
+either-same : (s u : Bool) → s || (s || u) ≡ s || u
+either-same true u = refl
+either-same false u = refl
+
+pub any-insert : (n : Bytes) (ns : List Bytes) → anyLong (insert compareBytes n ns) ≡ ltb 256 (length n) || anyLong ns
+unfolding insert
+any-insert n [] = refl
+any-insert n (m ∷ ms) = go (compareBytes n m) refl (any-insert n ms)
+  where
+    go : (o : Order) → compareBytes n m ≡ o → anyLong (insert compareBytes n ms) ≡ ltb 256 (length n) || anyLong ms
+        → anyLong (byOrder o (n ∷ m ∷ ms) (m ∷ ms) (m ∷ insert compareBytes n ms)) ≡ ltb 256 (length n) || (ltb 256 (length m) || anyLong ms)
+    go Less e h = refl
+    go Equal e h = rw (bytes-order .same n m e) (sym (either-same (ltb 256 (length m)) (anyLong ms)))
+    go Greater e h = rw h (either-swap (ltb 256 (length m)) (ltb 256 (length n)) (anyLong ms))
+
+-- ------------------------------------------------------------------ the counts
+
+pub length-shown : (ns : List Bytes) (k : ℕ) (xs : List ℕ) → k ≤ length xs → length (map (pairIn ns) (pairsIn k xs)) ≡ k
+length-shown ns k xs h = length-map (pairsIn k xs) (pairIn ns) ∙ length-map (take k xs) placesOf ∙ length-take-le k xs h
+
+pub judge-tables : (t : Tables) (o : Option Bytes) → Good t
+    → judge (owned o (graphIn t)) ≡ sizeFault (namesAnd o (tableNames t)) (t .sizes .subgraph) (t .sizes .translation)
+unfolding judge countFault
+judge-tables t o g =
+    rw (
+      names-owned o (graphIn t),
+      g .used,
+      length-shown (tableNames t) (t .sizes .subgraph) (t .subs) (g .kept .subgraph .within),
+      length-shown (tableNames t) (t .sizes .translation) (t .trans) (g .kept .translation .within),
+    )
+
+-- of the names with an own name: it is not there, it is long, it is there, it is new
+module _ (ns : List Bytes) (n bytes s m : ℕ) (order : Ascending compareBytes ns) (short : anyLong ns ≡ false) (count : length ns ≡ n) (total : bytes ≡ length (bodies ns)) where
+  pub fault-without : sizeFault (namesAnd none ns) s m ≡ countFault n bytes s m
+  fault-without = rw (short, count, ← total)
+
+  pub fault-long : (own : Bytes) → 256 < length own → sizeFault (namesAnd (some own) ns) s m ≡ 11
+  fault-long own h = rw (any-insert own ns, lt-ltb 256 (length own) h)
+
+  module _ (own : Bytes) (p : ℕ) (place : p ≡ lower compareBytes own ns) where
+    pub fault-there : holdsAt ns p own ≡ true → sizeFault (namesAnd (some own) ns) s m ≡ countFault n bytes s m
+    fault-there h =
+        let (l, d) = holds-true ns p own h in
+        rw (insert-there bytes-order [] own ns p order l d, short, count, ← total)
+
+    pub fault-new : length own ≤ 256 → holdsAt ns p own ≡ false → sizeFault (namesAnd (some own) ns) s m ≡ countFault (n + 1) (bytes + length own) s m
+    fault-new k h =
+        let l = lower-le compareBytes own ns in
+        let e = insert-new bytes-order [] own ns order (rw place at (holds-false ns p own h)) in
+        let a : anyLong (insert compareBytes own ns) ≡ false = any-insert own ns ∙ rw (le-ltb 256 (length own) k) short in
+        rw (
+          a,
+          e,
+          length-spliced own (lower compareBytes own ns) ns l,
+          length-bodies-spliced own (lower compareBytes own ns) ns l,
+          count,
+          ← total,
+          add-one n,
+        )
+
+-- ------------------------------------------------------------------ what is stored
+
+module _ (t : Tables) (own : ℕ) (r : Ready t own) where
+  abbrev g : GraphName
+  g = meaning (readOut t own)
+
+  abbrev fault : ℕ
+  fault = countFault (t .sizes .names) (t .sizes .bytes) (t .sizes .subgraph) (t .sizes .translation)
+
+  count-names : length (tableNames t) ≡ t .sizes .names
+  count-names = length-names (t .pool) (t .sizes .names) (t .refs) (r .kept .count)
+
+  judge-ready : judge g ≡ fault
+  unfolding judge countFault
+  judge-ready =
+      rw (
+        r .used,
+        r .kept .short,
+        count-names,
+        ← r .kept .total,
+        length-shown (tableNames t) (t .sizes .subgraph) (t .subs) (r .kept .subgraph .within),
+        length-shown (tableNames t) (t .sizes .translation) (t .trans) (r .kept .translation .within),
+      )
+
+  pub ready-storable : fault ≡ 0 → Storable t own
+  ready-storable e =
+      let s = judge-sizes g (judge-ready ∙ e) in
+      let n = ap length (r .used) ∙ count-names in
+      let b = ap (λ (ns : List Bytes). length (bodies ns)) (r .used) in
+      let ls = length-shown (tableNames t) (t .sizes .subgraph) (t .subs) (r .kept .subgraph .within) in
+      let lt = length-shown (tableNames t) (t .sizes .translation) (t .trans) (r .kept .translation .within) in
+      record {
+        kept = r .kept;
+        own-within = r .own-within;
+        count = omega (arith, s .count);
+        bytes = omega (arith, s .room, r .kept .total);
+        subgraph = omega (arith, s .subgraphs);
+        translation = omega (arith, s .translations);
+        used = r .used;
+      }
+
+  pub kept-stored : (b : Bytes) → fault ≡ 0 → keptOr b g ≡ record { number = 0; buffer = encode g }
+  kept-stored b e = rw (eq-eqb (judge g) 0 (judge-ready ∙ e))
+
+  pub kept-refused : (b : Bytes) → (fault ≡ 0 → ⊥) → keptOr b g ≡ record { number = fault; buffer = b }
+  kept-refused b n = rw (ne-eqb (judge g) 0 (λ e. n (sym judge-ready ∙ e)), judge-ready)
+
+-- tables whose names are all used are ready with no own name, and with one that was put in
+pub ready-without : (t : Tables) → Good t → Ready t 0
+ready-without t g = record { kept = g .kept; own-within = omega arith; used = g .used }
+
+module _ (t u : Tables) (own : Bytes) (p : ℕ) (good : Good t) (put : NamePut t own u p) where
+  at-place : (p < length (tableNames u)) × (nameIn (tableNames u) p ≡ own)
+  at-place = rw (put .names, put .place) (insert-at-lower bytes-order [] own (tableNames t))
+
+  pub meaning-own : meaning (readOut u (p + 1)) ≡ owned (some own) (graphIn t)
+  meaning-own = rw (add-one p, at-place .1) (ap (owned (some own)) (put .graph))
+
+  pub ready-own : Ready u (p + 1)
+  ready-own =
+      let n = length-names (u .pool) (u .sizes .names) (u .refs) (put .kept .count) in
+      record {
+        kept = put .kept;
+        own-within = omega (arith, at-place .0);
+        used = ap names meaning-own ∙ names-owned (some own) (graphIn t) ∙ ap (insert compareBytes own) (good .used) ∙ sym (put .names);
+      }

@@ -1,0 +1,14 @@
+pub mod Gap
+pub mod Lower
+pub mod Splice
+pub mod Renumber
+pub mod Front
+pub mod Search
+pub mod Bodies
+pub mod Pairs
+pub mod PutName
+pub mod PutPair
+pub mod Writing
+pub mod Stored
+pub mod Total
+pub mod Judge

@@ -1,0 +1,51 @@
+-- The sizes that tables are judged by, with an own name kept apart; and what is ready to be stored. Assumes nothing.
+use mathlib.Core.Path.{_≡_}
+use mathlib.Core.Bool.{Bool, true, false, cond, _||_}
+use mathlib.Core.List.{List}
+use mathlib.Core.Option.{Option, some, none}
+use Prim.Native.Nat.{ℕ, _≤_}
+use lib.ListN.{length}
+use lib.Dec.{ltb}
+use Rattle.model.specs.Bytes.{Bytes, compareBytes}
+use Rattle.model.specs.Record.{GraphName, insert, names, anyLong, bodies}
+use Rattle.model.specs.Statements.{Ascending}
+use Rattle.record.specs.Coded.{meaning}
+use Rattle.tables.specs.declared.putting.Sizes.{Sizes}
+use Rattle.tables.specs.Tables.{Tables, namesIn, tableNames, readOut, Kept}
+
+-- a graph name with this own name, or none
+abbrev pub owned : Option Bytes → GraphName → GraphName
+owned name g = record { name = name; subgraph = g .subgraph; translation = g .translation }
+
+-- an own name, if there is one
+abbrev pub ownIf : Bool → Bytes → Option Bytes
+ownIf false own = none
+ownIf true own = some own
+
+-- the names, with an own name among them
+abbrev pub namesAnd : Option Bytes → List Bytes → List Bytes
+namesAnd none ns = ns
+namesAnd (some n) ns = insert compareBytes n ns
+
+-- document 01's numbers 12 to 14, in their order, or 0
+unfoldable pub countFault : ℕ → ℕ → ℕ → ℕ → ℕ
+countFault count bytes subgraph translation =
+    cond (ltb 512 count) 12 (cond (ltb 1024 subgraph || ltb 1024 translation) 13 (cond (ltb 22520 bytes) 14 0))
+
+-- 11 to 14, of these names and so many pairs
+abbrev pub sizeFault : List Bytes → ℕ → ℕ → ℕ
+sizeFault ns subgraph translation = cond (anyLong ns) 11 (countFault (length ns) (length (bodies ns)) subgraph translation)
+
+-- what is known of the names of tables
+pub record NamesKept (refs : List ℕ) (pool : Bytes) (sizes : Sizes) : Type 0 where
+  pub order : Ascending compareBytes (namesIn pool (sizes .names) refs)
+  pub short : anyLong (namesIn pool (sizes .names) refs) ≡ false
+  pub total : sizes .bytes ≡ length (bodies (namesIn pool (sizes .names) refs))
+  pub count : sizes .names ≤ length refs
+  pub room : sizes .bytes ≤ length pool
+
+-- the tables, with the own name of this number, are those of a graph name
+pub record Ready (t : Tables) (own : ℕ) : Type 0 where
+  pub kept : Kept t
+  pub own-within : own ≤ t .sizes .names
+  pub used : names (meaning (readOut t own)) ≡ tableNames t

@@ -1,0 +1,78 @@
+// The sizes, document 01's numbers 11 to 14, and storing what is within them.
+use crate::putting::Sizes;
+use crate::putting::is_at;
+use crate::putting::name_place;
+use crate::storing::store;
+ghost use mathlib.Core.Path.{_≡_};
+ghost use mathlib.Core.Bool.{true};
+ghost use Prim.Native.Nat.{_+_, _≤_, _<_};
+ghost use lib.ListN.{length};
+ghost use Rattle.model.specs.Numbers.{number};
+ghost use Rattle.model.specs.Layout.{ownAt, decode};
+ghost use Rattle.model.specs.Questions.{isSome};
+ghost use Rattle.model.specs.Outcome.{keptOr};
+ghost use Rattle.record.specs.Coded.{meaning};
+ghost use Rattle.tables.specs.Tables.{tables, namesIn, readOut, graphIn, Good};
+ghost use Rattle.tables.specs.Judging.{owned, ownIf, namesAnd, countFault, sizeFault, NamesKept, Ready};
+
+// The first of the sizes that is over its limit: names, pairs of either kind, bytes. Or 0.
+fn count_fault(names: usize, bytes: usize, subgraph: usize, translation: usize) -> u32
+    ensures { λ r. ⌜ r ≡ countFault names bytes subgraph translation ⌝ }
+{
+    if 512 < names {
+        return 12;
+    }
+    if 1024 < subgraph {
+        return 13;
+    }
+    if 1024 < translation {
+        return 13;
+    }
+    if 22520 < bytes { 14 } else { 0 }
+}
+
+// The number for the sizes of the graph name that the tables show, with an own name beside them if `named`.
+pub fn judged(refs: &[u32], pool: &[u8], sizes: Sizes, named: bool, own: &[u8]) -> u32
+    requires { ⌜ NamesKept (now refs) (now pool) sizes ⌝ }
+    ensures { λ r. ⌜ r ≡ sizeFault (namesAnd (ownIf named (now (own .entry))) (namesIn (now (pool .entry)) (sizes .names) (now (refs .entry)))) (sizes .subgraph) (sizes .translation) ⌝ }
+{
+    let n = sizes.names;
+    if !named {
+        return count_fault(n, sizes.bytes, sizes.subgraph, sizes.translation);
+    }
+    if 256 < own.len() {
+        return 11;
+    }
+    let p = name_place(refs, pool, n, own);
+    if is_at(refs, pool, n, p, own) {
+        return count_fault(n, sizes.bytes, sizes.subgraph, sizes.translation);
+    }
+    count_fault(
+        n + 1,
+        sizes.bytes + own.len(),
+        sizes.subgraph,
+        sizes.translation,
+    )
+}
+
+// Stores the tables, with the own name of this number, if they are within the sizes; else gives the number and leaves the buffer.
+pub fn keep(
+    buffer: &mut [u8],
+    refs: &[u32],
+    subs: &[u32],
+    trans: &[u32],
+    pool: &[u8],
+    sizes: Sizes,
+    own: usize,
+) -> u32
+    requires { ⌜ Ready (tables (now refs) (now subs) (now trans) (now pool) sizes) own × (length (now buffer) ≡ 32768) ⌝ }
+    ensures { λ r. ⌜ r ≡ keptOr (now (buffer .entry)) (meaning (readOut (tables (now (refs .entry)) (now (subs .entry)) (now (trans .entry)) (now (pool .entry)) sizes) own)) .number ⌝ }
+    ensures { λ _. ⌜ now (buffer .exit) ≡ keptOr (now (buffer .entry)) (meaning (readOut (tables (now (refs .entry)) (now (subs .entry)) (now (trans .entry)) (now (pool .entry)) sizes) own)) .buffer ⌝ }
+{
+    let fault = count_fault(sizes.names, sizes.bytes, sizes.subgraph, sizes.translation);
+    if fault != 0 {
+        return fault;
+    }
+    store(refs, subs, trans, pool, sizes, own, buffer);
+    0
+}

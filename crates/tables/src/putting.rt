@@ -1,0 +1,167 @@
+// The working tables: names as ascending numbers for bodies in a pool, pairs of either kind as ascending numbers of two places.
+use crate::sorted::insert_at;
+use crate::sorted::put_number;
+use crate::sorted::renumber;
+use model::Kind;
+use model::Order;
+ghost use mathlib.Core.Path.{_≡_};
+ghost use Prim.Native.Nat.{_≤_, _<_};
+ghost use lib.ListN.{length};
+ghost use Rattle.model.specs.Bytes.{compareBytes};
+ghost use Rattle.model.specs.Statements.{Ascending};
+ghost use Rattle.tables.specs.Sorted.{lower, placeAfter};
+ghost use Rattle.tables.specs.Tables.{tables, bodyIn, namesIn, holdsAt, Kept, Good, NameRoom, PairRoom, NamePut, PairPut};
+
+// How much of the tables is in use: names, bytes of the pool, and pairs of each kind.
+pub struct Sizes {
+    pub names: usize,
+    pub bytes: usize,
+    pub subgraph: usize,
+    pub translation: usize,
+}
+
+// A place in the tables, and how much of them is in use.
+pub struct Placed {
+    pub place: usize,
+    pub sizes: Sizes,
+}
+
+// A table with room for the names of two full records and four more.
+pub fn name_table() -> [u32; 1028]
+    ensures { λ r. ⌜ length r ≡ 1028 ⌝ }
+{
+    [0; 1028]
+}
+
+// A table with room for the pairs of one kind of two full records and two more.
+pub fn pair_table() -> [u32; 2050]
+    ensures { λ r. ⌜ length r ≡ 2050 ⌝ }
+{
+    [0; 2050]
+}
+
+// A pool with room for the bodies of two full records and three more of the longest.
+pub fn pool() -> [u8; 45808]
+    ensures { λ r. ⌜ length r ≡ 45808 ⌝ }
+{
+    [0; 45808]
+}
+
+// The body that a number of the table of names stands for.
+pub(crate) fn body(pool: &[u8], r: u32) -> &[u8]
+    ensures { λ b. ⌜ now b ≡ bodyIn (now (pool .entry)) r ⌝ }
+{
+    text::part(pool, (r / 65536) as usize, (r % 65536) as usize)
+}
+
+// How many of the n names, which ascend, are less than `name`.
+pub(crate) fn name_place(refs: &[u32], pool: &[u8], n: usize, name: &[u8]) -> usize
+    requires { ⌜ (n ≤ length (now refs)) × Ascending compareBytes (namesIn (now pool) n (now refs)) ⌝ }
+    ensures { λ r. ⌜ (r ≡ lower compareBytes (now (name .entry)) (namesIn (now (pool .entry)) n (now (refs .entry)))) × (r ≤ n) ⌝ }
+{
+    let mut lo = 0;
+    let mut hi = n;
+    while lo < hi {
+        let mid = lo + (hi - lo) / 2;
+        match text::compare(body(pool, refs[mid]), name) {
+            Order::Less => lo = mid + 1,
+            Order::Equal => return mid,
+            Order::Greater => hi = mid,
+        }
+    }
+    lo
+}
+
+// Whether `name` stands at place p of the n names.
+pub(crate) fn is_at(refs: &[u32], pool: &[u8], n: usize, p: usize, name: &[u8]) -> bool
+    requires { ⌜ n ≤ length (now refs) ⌝ }
+    ensures { λ r. ⌜ r ≡ holdsAt (namesIn (now (pool .entry)) n (now (refs .entry))) p (now (name .entry)) ⌝ }
+{
+    if n <= p {
+        return false;
+    }
+    text::same(body(pool, refs[p]), name)
+}
+
+// Puts a name into the tables, unless it is there, and gives its place.
+pub fn put_name(
+    refs: &mut [u32],
+    subs: &mut [u32],
+    trans: &mut [u32],
+    pool: &mut [u8],
+    sizes: Sizes,
+    name: &[u8],
+) -> Placed
+    requires { ⌜ Kept (tables (now refs) (now subs) (now trans) (now pool) sizes) ⌝ }
+    requires { ⌜ NameRoom (tables (now refs) (now subs) (now trans) (now pool) sizes) (now name) ⌝ }
+    ensures { λ r. ⌜ NamePut (tables (now (refs .entry)) (now (subs .entry)) (now (trans .entry)) (now (pool .entry)) sizes) (now (name .entry)) (tables (now (refs .exit)) (now (subs .exit)) (now (trans .exit)) (now (pool .exit)) (r .sizes)) (r .place) ⌝ }
+{
+    let n = sizes.names;
+    let at = sizes.bytes;
+    let p = name_place(refs, pool, n, name);
+    if is_at(refs, pool, n, p, name) {
+        return Placed {
+            place: p,
+            sizes: sizes,
+        };
+    }
+    let end = text::copy(pool, at, name);
+    insert_at(refs, n, p, (at * 65536 + name.len()) as u32);
+    renumber(subs, sizes.subgraph, p as u32);
+    renumber(trans, sizes.translation, p as u32);
+    Placed {
+        place: p,
+        sizes: Sizes {
+            names: n + 1,
+            bytes: end,
+            subgraph: sizes.subgraph,
+            translation: sizes.translation,
+        },
+    }
+}
+
+// The place x after a name was put in at place p, if that made the names more.
+fn moved_place(x: usize, p: usize, before: usize, now: usize) -> usize
+    requires { ⌜ x < 65536 ⌝ }
+    ensures { λ r. ⌜ r ≡ placeAfter before now p x ⌝ }
+{
+    if before == now {
+        return x;
+    }
+    if p <= x { x + 1 } else { x }
+}
+
+// Puts a pair of a kind with its two names into the tables, unless it is there.
+pub fn put_pair(
+    kind: Kind,
+    refs: &mut [u32],
+    subs: &mut [u32],
+    trans: &mut [u32],
+    pool: &mut [u8],
+    sizes: Sizes,
+    from: &[u8],
+    to: &[u8],
+) -> Sizes
+    requires { ⌜ Good (tables (now refs) (now subs) (now trans) (now pool) sizes) ⌝ }
+    requires { ⌜ PairRoom (tables (now refs) (now subs) (now trans) (now pool) sizes) (now from) (now to) ⌝ }
+    ensures { λ r. ⌜ PairPut kind (tables (now (refs .entry)) (now (subs .entry)) (now (trans .entry)) (now (pool .entry)) sizes) (now (from .entry)) (now (to .entry)) (tables (now (refs .exit)) (now (subs .exit)) (now (trans .exit)) (now (pool .exit)) r) ⌝ }
+{
+    let a = put_name(refs, subs, trans, pool, sizes, from);
+    let b = put_name(refs, subs, trans, pool, a.sizes, to);
+    let x = moved_place(a.place, b.place, a.sizes.names, b.sizes.names);
+    let pair = (x * 65536 + b.place) as u32;
+    match kind {
+        Kind::Subgraph => Sizes {
+            names: b.sizes.names,
+            bytes: b.sizes.bytes,
+            subgraph: put_number(subs, b.sizes.subgraph, pair),
+            translation: b.sizes.translation,
+        },
+        Kind::Translation => Sizes {
+            names: b.sizes.names,
+            bytes: b.sizes.bytes,
+            subgraph: b.sizes.subgraph,
+            translation: put_number(trans, b.sizes.translation, pair),
+        },
+    }
+}
