@@ -18,14 +18,14 @@ use Rattle.model.specs.Record.{GraphName, insert, names, anyLong, bodies, judge
 use Rattle.model.specs.Layout.{encode}
 use Rattle.model.specs.Outcome.{keptOr}
 use Rattle.record.specs.Coded.{nameIn, pairIn, meaning}
-use Rattle.model.specs.Statements.{Ascending}
 use Rattle.record.proofs.Sizes.{judge-sizes}
 use Rattle.record.proofs.Names.{allNames, names-ascending, names-members}
 use Rattle.text.proofs.Order.{bytes-order}
 use Rattle.text.proofs.Ascending.{insert-members, insert-ascending, ascending-unique}
 use Rattle.tables.specs.Sorted.{lower}
-use Rattle.tables.specs.Tables.{Tables, tableNames, graphIn, readOut, placesOf, pairsIn, holdsAt, Good, NamePut, Storable}
-use Rattle.tables.specs.Judging.{owned, namesAnd, countFault, sizeFault, Ready}
+use Rattle.tables.specs.Tables.{Tables, namesIn, tableNames, graphIn, readOut, placesOf, pairsIn, holdsAt, Good, NamePut, Storable}
+use Rattle.tables.specs.declared.putting.Sizes.{Sizes}
+use Rattle.tables.specs.Judging.{owned, ownIf, namesAnd, countFault, sizeFault, NamesKept, Ready}
 use Rattle.tables.proofs.Lower.{lower-le, insert-new, insert-there}
 use Rattle.tables.proofs.Splice.{length-spliced, length-bodies-spliced}
 use Rattle.tables.proofs.Search.{length-names}
@@ -92,34 +92,63 @@ judge-tables t o g =
       length-shown (tableNames t) (t .sizes .translation) (t .trans) (g .kept .translation .within),
     )
 
--- of the names with an own name: it is not there, it is long, it is there, it is new
-module _ (ns : List Bytes) (n bytes s m : ℕ) (order : Ascending compareBytes ns) (short : anyLong ns ≡ false) (count : length ns ≡ n) (total : bytes ≡ length (bodies ns)) where
-  pub fault-without : sizeFault (namesAnd none ns) s m ≡ countFault n bytes s m
-  fault-without = rw (short, count, ← total)
+-- the number that tables are judged by, as their own name is absent, long, there or new; with room for one more the last two are the same
+module _ (refs : List ℕ) (pool : Bytes) (sizes : Sizes) (k : NamesKept refs pool sizes) (named : Bool) (own : Bytes) where
+  abbrev ns : List Bytes
+  ns = namesIn pool (sizes .names) refs
 
-  pub fault-long : (own : Bytes) → 256 < length own → sizeFault (namesAnd (some own) ns) s m ≡ 11
-  fault-long own h = rw (any-insert own ns, lt-ltb 256 (length own) h)
+  abbrev number : ℕ
+  number = sizeFault (namesAnd (ownIf named own) ns) (sizes .subgraph) (sizes .translation)
 
-  module _ (own : Bytes) (p : ℕ) (place : p ≡ lower compareBytes own ns) where
-    pub fault-there : holdsAt ns p own ≡ true → sizeFault (namesAnd (some own) ns) s m ≡ countFault n bytes s m
-    fault-there h =
-        let (l, d) = holds-true ns p own h in
-        rw (insert-there bytes-order [] own ns p order l d, short, count, ← total)
+  abbrev counted : ℕ → ℕ → ℕ
+  counted n bytes = countFault n bytes (sizes .subgraph) (sizes .translation)
 
-    pub fault-new : length own ≤ 256 → holdsAt ns p own ≡ false → sizeFault (namesAnd (some own) ns) s m ≡ countFault (n + 1) (bytes + length own) s m
-    fault-new k h =
-        let l = lower-le compareBytes own ns in
-        let e = insert-new bytes-order [] own ns order (rw place at (holds-false ns p own h)) in
-        let a : anyLong (insert compareBytes own ns) ≡ false = any-insert own ns ∙ rw (le-ltb 256 (length own) k) short in
-        rw (
-          a,
-          e,
-          length-spliced own (lower compareBytes own ns) ns l,
-          length-bodies-spliced own (lower compareBytes own ns) ns l,
-          count,
-          ← total,
-          add-one n,
-        )
+  count-kept : length ns ≡ sizes .names
+  count-kept = length-names pool (sizes .names) refs (k .count)
+
+  pub fault-without : named ≡ false → number ≡ counted (sizes .names) (sizes .bytes)
+  fault-without e = rw (e, k .short, count-kept, ← k .total)
+
+  module _ (e : named ≡ true) where
+    pub fault-long : 256 < length own → number ≡ 11
+    fault-long h = rw (e, any-insert own ns, lt-ltb 256 (length own) h)
+
+    module _ (p : ℕ) (place : p ≡ lower compareBytes own ns) where
+      pub fault-there : holdsAt ns p own ≡ true → number ≡ counted (sizes .names) (sizes .bytes)
+      fault-there h =
+          let (l, d) = holds-true ns p own h in
+          rw (e, insert-there bytes-order [] own ns p (k .order) l d, k .short, count-kept, ← k .total)
+
+      pub fault-new : length own ≤ 256 → holdsAt ns p own ≡ false → number ≡ counted (sizes .names + 1) (sizes .bytes + length own)
+      fault-new s h =
+          let l = lower-le compareBytes own ns in
+          let new = insert-new bytes-order [] own ns (k .order) (rw place at (holds-false ns p own h)) in
+          let short : anyLong (insert compareBytes own ns) ≡ false = any-insert own ns ∙ rw (le-ltb 256 (length own) s) (k .short) in
+          rw (
+            e,
+            short,
+            new,
+            length-spliced own (lower compareBytes own ns) ns l,
+            length-bodies-spliced own (lower compareBytes own ns) ns l,
+            count-kept,
+            ← k .total,
+            add-one (sizes .names),
+          )
+
+    pub fault-room : length own ≤ 256 → sizes .names < 512 → sizes .bytes + length own ≤ 22520 → number ≡ counted (sizes .names) (sizes .bytes)
+    unfolding countFault
+    fault-room s n b = go (holdsAt ns (lower compareBytes own ns) own) refl
+      where
+        go : (t : Bool) → holdsAt ns (lower compareBytes own ns) own ≡ t → number ≡ counted (sizes .names) (sizes .bytes)
+        go true h = fault-there (lower compareBytes own ns) refl h
+        go false h =
+            fault-new (lower compareBytes own ns) refl s h
+            ∙ rw (
+              le-ltb 512 (sizes .names + 1) (omega arith),
+              le-ltb 512 (sizes .names) (omega arith),
+              le-ltb 22520 (sizes .bytes + length own) b,
+              le-ltb 22520 (sizes .bytes) (omega arith),
+            )
 
 -- ------------------------------------------------------------------ what is stored
 

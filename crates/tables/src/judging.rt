@@ -31,7 +31,8 @@ fn count_fault(names: usize, bytes: usize, subgraph: usize, translation: usize) 
     if 22520 < bytes { 14 } else { 0 }
 }
 
-// The number for the sizes of the graph name that the tables show, with an own name beside them if `named`.
+// The number for the sizes of the graph name that the tables show, with an own name beside them if `named`. Where there is room for
+// one more, it need not be looked for.
 pub fn judged(refs: &[u32], pool: &[u8], sizes: Sizes, named: bool, own: &[u8]) -> u32
     requires { ⌜ NamesKept (now refs) (now pool) sizes ⌝ }
     ensures { λ r. ⌜ r ≡ sizeFault (namesAnd (ownIf named (now (own .entry))) (namesIn (now (pool .entry)) (sizes .names) (now (refs .entry)))) (sizes .subgraph) (sizes .translation) ⌝ }
@@ -43,16 +44,15 @@ pub fn judged(refs: &[u32], pool: &[u8], sizes: Sizes, named: bool, own: &[u8]) 
     if 256 < own.len() {
         return 11;
     }
+    let bytes = sizes.bytes + own.len();
+    if n < 512 && bytes <= 22520 {
+        return count_fault(n, sizes.bytes, sizes.subgraph, sizes.translation);
+    }
     let p = name_place(refs, pool, n, own);
     if is_at(refs, pool, n, p, own) {
         return count_fault(n, sizes.bytes, sizes.subgraph, sizes.translation);
     }
-    count_fault(
-        n + 1,
-        sizes.bytes + own.len(),
-        sizes.subgraph,
-        sizes.translation,
-    )
+    count_fault(n + 1, bytes, sizes.subgraph, sizes.translation)
 }
 
 // Stores the tables, with the own name of this number, if they are within the sizes; else gives the number and leaves the buffer.
