@@ -1,7 +1,7 @@
 -- The changes that the operations make of the tables: the room that they have, and the graph name that they keep.
 use mathlib.Core.Path.{_≡_, refl, sym, ap, ap₂, _∙_}
-use mathlib.Core.Bool.{true, _||_}
-use mathlib.Core.List.{[], _∷_}
+use mathlib.Core.Bool.{Bool, true, false, _||_}
+use mathlib.Core.List.{List, [], _∷_, List·Memᴰ·not-nil}
 use mathlib.Core.Option.{Option, some, none}
 use Prim.Native.Nat.{ℕ, zero, suc, _+_, _-_, _≤_, _<_}
 use native.Mathlib.Omega.{arith}
@@ -13,116 +13,172 @@ use Rattle.model.specs.declared.Kind.the-variants.{Subgraph, Translation}
 use Rattle.model.specs.Bytes.{Bytes, compareBytes, put}
 use Rattle.model.specs.Numbers.{number}
 use Rattle.model.specs.Record.{Pair, GraphName, insert, insertAll, empty, withName, withPair, withRelationships, names, anyLong, judge, bodies}
-use Rattle.model.specs.Layout.{nameAt, ownAt, shown, encode}
+use Rattle.model.specs.Layout.{nameAt, ownAt, shown, encode, decode}
 use Rattle.model.specs.Outcome.{keptOr, freshOr, newRecord, related}
-use Rattle.tables.specs.Tables.{Tables, tableNames, graphIn, Good, PairRoom, PairPut, NamePut, Storable}
-use Rattle.tables.specs.Judging.{owned}
-use Rattle.edit.specs.Merging.{allOf, MergeRoom, TableRoom, Loaded}
+use Rattle.model.specs.Questions.{isSome}
+use Rattle.tables.specs.declared.putting.Sizes.{Sizes}
+use Rattle.model.specs.Statements.{Ascending}
+use Rattle.record.specs.Test.{Under}
+use Rattle.tables.specs.Tables.{Tables, tables, tableNames, NameRoom, Kept, PairRoom, PairPut, NamePut, Storable}
+use Rattle.tables.specs.Judging.{owned, Good}
+use Rattle.edit.specs.Loading.{sizesOf, LoadRoom}
+use Rattle.edit.specs.Merging.{allOf, MergeRoom, Merged}
+use Rattle.edit.specs.Changing.{mergedIf, pairedIf, sizesIf, Room, Bounded, Few, MergedIf, PairedIf}
+use Rattle.edit.proofs.Records.{sizes-of}
 use Rattle.tables.proofs.Search.{length-names}
-use Rattle.tables.proofs.Total.{total, total-count, total-bodies, total-insert, total-insertAll}
+use Rattle.tables.proofs.Total.{total, total-count, total-bodies, total-insertAll}
 use Rattle.tables.proofs.Pairs.{names-withPair}
-use Rattle.tables.proofs.Judge.{any-insert, ready-own}
+use Rattle.tables.proofs.Judge.{any-insert, good-put, ready-own}
 use Rattle.tables.proofs.Stored.{put-whole}
 
 -- ------------------------------------------------------------------ room
 
--- a pair put into tables adds at most its two names
-module _ (kind : Kind) (u w : Tables) (from to : Bytes) (start : Good u) (put : PairPut kind u from to w) where
-  both-names : tableNames w ≡ insert compareBytes to (insert compareBytes from (tableNames u))
-  both-names =
-      sym (put .good .used) ∙ ap names (put .graph) ∙ names-withPair kind (record { from = from; to = to }) (graphIn u)
-      ∙ ap (λ ns. insert compareBytes to (insert compareBytes from ns)) (start .used)
-
-  two-more : (f : Bytes → ℕ) → total f (tableNames w) ≤ f to + (f from + total f (tableNames u))
-  two-more f =
-      rw both-names
-      (omega (arith, total-insert compareBytes f to (insert compareBytes from (tableNames u)), total-insert compareBytes f from (tableNames u)))
-
-  pub pair-count : w .sizes .names ≤ u .sizes .names + 2
-  pair-count =
-      omega (
-        arith,
-        two-more (λ (x : Bytes). 1),
-        total-count (tableNames w),
-        total-count (tableNames u),
-        length-names (w .pool) (w .sizes .names) (w .refs) (put .good .kept .count),
-        length-names (u .pool) (u .sizes .names) (u .refs) (start .kept .count),
-      )
-
-  pub pair-bytes : w .sizes .bytes ≤ u .sizes .bytes + length from + length to
-  pair-bytes =
-      omega (arith, two-more length, total-bodies (tableNames w), total-bodies (tableNames u), put .good .kept .total, start .kept .total)
-
-module _ (u : Tables) (room : TableRoom (u .refs) (u .subs) (u .trans) (u .pool)) where
-  pub pair-room : (from to : Bytes) → length from ≤ 256 → length to ≤ 256 → u .sizes .names ≤ 1024 → u .sizes .bytes ≤ 45040 → u .sizes .subgraph ≤ 2048
-      → u .sizes .translation ≤ 2048 → PairRoom u from to
-  pair-room from to f t n b s m = record {
-    from-short = f;
-    to-short = t;
-    count = omega (arith, room .refs-long);
-    room = omega (arith, room .pool-long);
-    subgraph = omega (arith, room .subs-long);
-    translation = omega (arith, room .trans-long);
+module _ (g h : GraphName) (merging : Bool) (refs subs trans : List ℕ) (pool : Bytes) (room : Room (sizesOf g) (sizesIf merging h) refs subs trans pool) where
+  pub load-room : LoadRoom g refs subs trans pool
+  load-room = record {
+    count = omega (arith, room .count);
+    room = omega (arith, room .room);
+    subgraph = omega (arith, room .subgraph);
+    translation = omega (arith, room .translation);
+    few = room .few;
+    small = room .small;
   }
 
-  -- another record's pairs beside those of one
-  module _ (g h : GraphName) (load : Loaded g u) (count : length (names h) ≤ 512) (bytes : length (bodies (names h)) ≤ 22520)
-      (subgraphs : length (h .subgraph) ≤ 1024) (translations : length (h .translation) ≤ 1024) where
-    pub all-count : length (allOf u h) ≤ 1024
-    all-count =
-        omega (
-          arith,
-          total-insertAll compareBytes (λ (x : Bytes). 1) (names h) (tableNames u),
-          total-count (allOf u h),
-          total-count (names h),
-          total-count (tableNames u),
-          length-names (u .pool) (u .sizes .names) (u .refs) (load .good .kept .count),
-          load .count,
-        )
+-- another record's pairs beside those of one
+module _ (h : GraphName) (u : Tables) (kept : Kept u) where
+  all-count : length (allOf u h) ≤ u .sizes .names + sizesOf h .names
+  all-count =
+      omega (
+        arith,
+        total-insertAll compareBytes (λ (x : Bytes). 1) (names h) (tableNames u),
+        total-count (allOf u h),
+        total-count (names h),
+        total-count (tableNames u),
+        length-names (u .pool) (u .sizes .names) (u .refs) (kept .count),
+      )
 
-    pub all-bytes : length (bodies (allOf u h)) ≤ 45040
-    all-bytes =
-        omega (
-          arith,
-          total-insertAll compareBytes length (names h) (tableNames u),
-          total-bodies (allOf u h),
-          total-bodies (names h),
-          total-bodies (tableNames u),
-          load .good .kept .total,
-          load .bytes,
-        )
+  all-bytes : length (bodies (allOf u h)) ≤ u .sizes .bytes + sizesOf h .bytes
+  all-bytes =
+      omega (
+        arith,
+        total-insertAll compareBytes length (names h) (tableNames u),
+        total-bodies (allOf u h),
+        total-bodies (names h),
+        total-bodies (tableNames u),
+        kept .total,
+      )
 
-    pub merge-room : MergeRoom u h (length (h .subgraph)) (length (h .translation))
-    merge-room = record {
-      count = omega (arith, all-count, room .refs-long);
-      room = omega (arith, all-bytes, room .pool-long);
-      subgraph = omega (arith, load .subgraph, room .subs-long);
-      translation = omega (arith, load .translation, room .trans-long);
-    }
+  pub merge-room : Room (u .sizes) (sizesOf h) (u .refs) (u .subs) (u .trans) (u .pool) → MergeRoom u h (length (h .subgraph)) (length (h .translation))
+  merge-room r = record {
+    count = omega (arith, all-count, r .count);
+    room = omega (arith, all-bytes, r .room);
+    subgraph = omega (arith, r .subgraph);
+    translation = omega (arith, r .translation);
+  }
+
+  pub merged-if : (merging : Bool) (w : Tables) → merging ≡ true → Merged u h w → MergedIf merging u h w
+  merged-if merging w e m =
+      rw e
+      (record {
+        kept = m .kept;
+        good = m .good;
+        graph = m .graph;
+        count = omega (arith, m .count, all-count);
+        bytes = omega (arith, m .bytes, all-bytes);
+        subgraph = m .subgraph;
+        translation = m .translation;
+      })
+
+  pub not-merged : (merging : Bool) → merging ≡ false → MergedIf merging u h u
+  not-merged merging e =
+      rw e
+      (record {
+        kept = kept;
+        good = λ own g. g;
+        graph = refl;
+        count = omega arith;
+        bytes = omega arith;
+        subgraph = omega arith;
+        translation = omega arith;
+      })
+
+-- a pair more
+module _ (kind : Kind) (u : Tables) (from to : Bytes) (pairing : Bool) where
+  pub paired-if : (w : Tables) → pairing ≡ true → PairPut kind u from to w → PairedIf pairing kind u from to w
+  paired-if w e p = rw e (record { good = λ own g. good-put own kind u w from to g p; graph = p .graph })
+
+  pub not-paired : pairing ≡ false → PairedIf pairing kind u from to u
+  not-paired e = rw e (record { good = λ own g. g; graph = refl })
+
+pub pair-room : (s t : Sizes) (u w : Tables) (merging : Bool) (h : GraphName) (from to : Bytes) → s ≡ u .sizes → t ≡ sizesIf merging h → MergedIf merging u h w
+    → Room s t (w .refs) (w .subs) (w .trans) (w .pool) → length from ≤ 256 → length to ≤ 256 → PairRoom w from to
+pair-room s t u w merging h from to e d m r f g = record {
+  from-short = f;
+  to-short = g;
+  count = omega (arith, m .count, r .count, ap (λ (x : Sizes). x .names) e, ap (λ (x : Sizes). x .names) d);
+  room = omega (arith, m .bytes, r .room, ap (λ (x : Sizes). x .bytes) e, ap (λ (x : Sizes). x .bytes) d);
+  subgraph = omega (arith, m .subgraph, r .subgraph, ap (λ (x : Sizes). x .subgraph) e, ap (λ (x : Sizes). x .subgraph) d);
+  translation = omega (arith, m .translation, r .translation, ap (λ (x : Sizes). x .translation) e, ap (λ (x : Sizes). x .translation) d);
+}
+
+-- tables of the same lengths have the same room
+pub same-room : (s t : Sizes) (refs subs trans refs′ subs′ trans′ : List ℕ) (pool pool′ : Bytes) → Room s t refs subs trans pool → length refs′ ≡ length refs
+    → length subs′ ≡ length subs → length trans′ ≡ length trans → length pool′ ≡ length pool → Room s t refs′ subs′ trans′ pool′
+same-room s t refs subs trans refs′ subs′ trans′ pool pool′ r a b c d = record {
+  count = rw a (r .count);
+  room = rw d (r .room);
+  subgraph = rw b (r .subgraph);
+  translation = rw c (r .translation);
+  few = rw a (r .few);
+  small = rw d (r .small);
+}
+
+-- the tables at hand have room
+module _ (s t : Sizes) (refs subs trans : List ℕ) (pool : Bytes) where
+  pub small-room : Few s t → length refs ≡ 132 → length subs ≡ 130 → length trans ≡ 130 → length pool ≡ 8960 → Room s t refs subs trans pool
+  small-room f a b c d = record {
+    count = omega (arith, f .names);
+    room = omega (arith, f .bytes);
+    subgraph = omega (arith, f .subgraph);
+    translation = omega (arith, f .translation);
+    few = omega arith;
+    small = omega arith;
+  }
+
+  pub large-room : Bounded s → Bounded t → length refs ≡ 1028 → length subs ≡ 2050 → length trans ≡ 2050 → length pool ≡ 45808 → Room s t refs subs trans pool
+  large-room f g a b c d = record {
+    count = omega (arith, f .names, g .names);
+    room = omega (arith, f .bytes, g .bytes);
+    subgraph = omega (arith, f .subgraph, g .subgraph);
+    translation = omega (arith, f .translation, g .translation);
+    few = omega arith;
+    small = omega arith;
+  }
+
+pub bounded : (b : Bytes) → isSome (decode b) ≡ true → Bounded (sizesOf (shown b))
+bounded b v = let z = sizes-of b v in record { names = z .count; bytes = z .room; subgraph = z .subgraphs; translation = z .translations }
+
+pub bounded-if : (merging : Bool) (b : Bytes) → (merging ≡ true → isSome (decode b) ≡ true) → Bounded (sizesIf merging (shown b))
+bounded-if true b v = bounded b (v refl)
+bounded-if false b v = record { names = omega arith; bytes = omega arith; subgraph = omega arith; translation = omega arith }
 
 -- ------------------------------------------------------------------ what is kept
 
 own-shown : (b : Bytes) → ownAt b (number b 2) ≡ shown b .name
 own-shown b = unfold shown in refl
 
-owned-pair : (kind : Kind) (p : Pair) (g : GraphName) → owned (g .name) (withPair kind p (owned none g)) ≡ withPair kind p g
-owned-pair Subgraph p g = refl
-owned-pair Translation p g = refl
-
-owned-both : (kind : Kind) (p : Pair) (h g : GraphName) → owned (g .name) (withPair kind p (withRelationships h (owned none g))) ≡ withPair kind p (withRelationships h g)
-owned-both Subgraph p h g = refl
-owned-both Translation p h g = refl
-
-module _ (b : Bytes) (u : GraphName) where
-  pub kept-pair : (kind : Kind) (p : Pair) → u ≡ withPair kind p (owned none (shown b)) → owned (ownAt b (number b 2)) u ≡ withPair kind p (shown b)
-  kept-pair kind p e = rw (own-shown b, e) (owned-pair kind p (shown b))
-
-  pub kept-all : (h : GraphName) → u ≡ withRelationships h (owned none (shown b)) → owned (ownAt b (number b 2)) u ≡ withRelationships h (shown b)
-  kept-all h e = rw (own-shown b, e)
-
-  pub kept-both : (kind : Kind) (p : Pair) (h : GraphName) → u ≡ withPair kind p (withRelationships h (owned none (shown b)))
-      → owned (ownAt b (number b 2)) u ≡ withPair kind p (withRelationships h (shown b))
-  kept-both kind p h e = rw (own-shown b, e) (owned-both kind p h (shown b))
+-- the graph name that the tables show is the one that is kept
+pub changed : (g h x y : GraphName) (merging pairing : Bool) (kind : Kind) (p : Pair) → x ≡ mergedIf merging h (owned none g) → y ≡ pairedIf pairing kind p x
+    → owned (g .name) y ≡ pairedIf pairing kind p (mergedIf merging h g)
+changed g h x y merging pairing kind p d e = ap (owned (g .name)) (e ∙ ap (pairedIf pairing kind p) d) ∙ go merging pairing kind
+  where
+    go : (merging pairing : Bool) (kind : Kind) → owned (g .name) (pairedIf pairing kind p (mergedIf merging h (owned none g))) ≡ pairedIf pairing kind p (mergedIf merging h g)
+    go true false kind = refl
+    go false false kind = refl
+    go true true Subgraph = refl
+    go true true Translation = refl
+    go false true Subgraph = refl
+    go false true Translation = refl
 
 -- a long name refuses an addition
 module _ (kind : Kind) (b from to : Bytes) (g : GraphName) where
@@ -204,17 +260,63 @@ cleared b l e d =
     let n : length b - 0 ≡ 32768 = omega arith in
     d ∙ ap (λ (k : ℕ). put b 0 (replicate k 0)) n ∙ put-whole b (replicate 32768 0) (length-replicate {A = ℕ} 32768 0 ∙ sym e)
 
--- the tables with a name alone can be stored
-pub alone-storable : (t u : Tables) (name : Bytes) (p : ℕ) → Good t → t .sizes .names ≡ 0 → t .sizes .bytes ≡ 0 → t .sizes .subgraph ≡ 0 → t .sizes .translation ≡ 0
-    → length name ≤ 256 → NamePut t name u p → Storable u (p + 1)
-alone-storable t u name p g n b s m h put =
-    let r = ready-own t u name p g put in
+-- tables that hold nothing
+module _ (name : Bytes) (refs subs trans : List ℕ) (pool : Bytes) (room : LoadRoom (withName name empty) refs subs trans pool) where
+  abbrev pub nothing : Tables
+  nothing = tables refs subs trans pool (record { names = 0; bytes = 0; subgraph = 0; translation = 0 })
+
+  pub nothing-good : Good none nothing
+  unfolding Ascending Under names insertAll
+  nothing-good = record {
+    kept = record {
+      order = tt;
+      short = refl;
+      within = λ r m. absurd (List·Memᴰ·not-nil m);
+      total = refl;
+      count = omega arith;
+      room = omega arith;
+      few = room .few;
+      small = room .small;
+      subgraph = record { order = tt; under = tt; within = omega arith };
+      translation = record { order = tt; under = tt; within = omega arith };
+    };
+    used = refl;
+  }
+
+  pub alone-room : length name ≤ 256 → NameRoom nothing name
+  alone-room h =
+      let n = alone name in
+      let l = length-append name [] in
+      record {
+        short = h;
+        count = omega (arith, room .count, ap length n);
+        room = omega (arith, room .room, ap (λ (ns : List Bytes). length (bodies ns)) n);
+      }
+
+  -- with a name alone they can be stored
+  pub alone-storable : (u : Tables) (p : ℕ) → length name ≤ 256 → NamePut nothing name u p → Storable u (p + 1)
+  alone-storable u p h put =
+      let r = ready-own nothing u name p put nothing-good in
+      record {
+        kept = r .kept;
+        own-within = r .own-within;
+        count = omega (arith, put .count);
+        bytes = omega (arith, put .bytes);
+        subgraph = omega (arith, put .subgraph);
+        translation = omega (arith, put .translation);
+        used = r .used;
+      }
+
+pub small-alone : (name : Bytes) (refs subs trans : List ℕ) (pool : Bytes) → length name ≤ 256 → length refs ≡ 132 → length subs ≡ 130 → length trans ≡ 130 → length pool ≡ 8960
+    → LoadRoom (withName name empty) refs subs trans pool
+small-alone name refs subs trans pool h a b c d =
+    let n = alone name in
+    let l = length-append name [] in
     record {
-      kept = r .kept;
-      own-within = r .own-within;
-      count = omega (arith, put .count);
-      bytes = omega (arith, put .bytes);
-      subgraph = omega (arith, put .subgraph);
-      translation = omega (arith, put .translation);
-      used = r .used;
+      count = omega (arith, ap length n);
+      room = omega (arith, ap (λ (ns : List Bytes). length (bodies ns)) n);
+      subgraph = omega arith;
+      translation = omega arith;
+      few = omega arith;
+      small = omega arith;
     }

@@ -1,7 +1,8 @@
 -- All pairs of a graph name put into tables: the names never are more than those of both, and the pairs never more than both have.
-use mathlib.Core.Path.{_≡_, refl, sym, ap, _∙_}
+use mathlib.Core.Path.{_≡_, refl, ap, _∙_}
 use mathlib.Core.Logic.{_⊎_, inl, inr, ⊎-elim}
 use mathlib.Core.List.{List, [], _∷_, List·Memᴰ}
+use mathlib.Core.Option.{Option}
 use Prim.Native.Nat.{ℕ, _+_, _≤_, _<_}
 use native.Mathlib.Omega.{arith}
 use native.Mathlib.Numerals.{add-one}
@@ -17,12 +18,13 @@ use Rattle.record.proofs.Names.{pair-listed}
 use Rattle.text.proofs.Order.{bytes-order}
 use Rattle.text.proofs.Ascending.{insert-members, insertAll-ascending, insertAll-members}
 use Rattle.text.proofs.Places.{getD-member}
-use Rattle.tables.specs.Tables.{Tables, tableNames, graphIn, Good, PairRoom, PairPut}
+use Rattle.tables.specs.Tables.{Tables, tableNames, graphIn, Kept, PairRoom, PairPut}
+use Rattle.tables.specs.Judging.{Good}
 use Rattle.edit.specs.Merging.{withPairs, subgraphMore, translationMore, allOf, MergeRoom, PairsPut}
 use Rattle.tables.proofs.Search.{length-names}
-use Rattle.tables.proofs.Pairs.{names-withPair, names-pair}
+use Rattle.tables.proofs.Pairs.{names-pair}
 use Rattle.tables.proofs.Total.{total, total-count, total-bodies, total-insert, total-part}
-use Rattle.tables.proofs.Judge.{length-shown}
+use Rattle.tables.proofs.Judge.{length-shown, good-put}
 
 abbrev pub none-pair : Pair
 none-pair = record { from = []; to = [] }
@@ -36,8 +38,8 @@ module _ (ns us : List Bytes) (a : Ascending compareBytes ns) (b : Ascending com
   pub shorter : length (bodies ns) ≤ length (bodies us)
   shorter = omega (arith, total-part bytes-order length ns us a b h, total-bodies ns, total-bodies us)
 
-pub all-ascending : (t : Tables) (h : GraphName) → Good t → Ascending compareBytes (allOf t h)
-all-ascending t h g = insertAll-ascending bytes-order (names h) (tableNames t) (g .kept .order)
+pub all-ascending : (t : Tables) (h : GraphName) → Kept t → Ascending compareBytes (allOf t h)
+all-ascending t h k = insertAll-ascending bytes-order (names h) (tableNames t) (k .order)
 
 -- ------------------------------------------------------------------ one pair
 
@@ -52,11 +54,11 @@ with-translation : (kind : Kind) (p : Pair) (g : GraphName) → length (withPair
 with-translation Subgraph p g = omega arith
 with-translation Translation p g = insert-length p (g .translation)
 
-count-subgraph : (t : Tables) → Good t → length (graphIn t .subgraph) ≡ t .sizes .subgraph
-count-subgraph t g = length-shown (tableNames t) (t .sizes .subgraph) (t .subs) (g .kept .subgraph .within)
+count-subgraph : (t : Tables) → Kept t → length (graphIn t .subgraph) ≡ t .sizes .subgraph
+count-subgraph t k = length-shown (tableNames t) (t .sizes .subgraph) (t .subs) (k .subgraph .within)
 
-count-translation : (t : Tables) → Good t → length (graphIn t .translation) ≡ t .sizes .translation
-count-translation t g = length-shown (tableNames t) (t .sizes .translation) (t .trans) (g .kept .translation .within)
+count-translation : (t : Tables) → Kept t → length (graphIn t .translation) ≡ t .sizes .translation
+count-translation t k = length-shown (tableNames t) (t .sizes .translation) (t .trans) (k .translation .within)
 
 more-subgraph : (kind : Kind) (i : ℕ) → subgraphMore kind i + subgraphMore kind 1 ≡ subgraphMore kind (i + 1)
 more-subgraph Subgraph i = refl
@@ -78,7 +80,8 @@ less-translation Translation i n h = h
 
 -- the first i pairs of a kind are in
 pub record Putting (kind : Kind) (t : Tables) (h : GraphName) (i : ℕ) (u : Tables) : Type 0 where
-  pub good : Good u
+  pub kept : Kept u
+  pub good : (own : Option Bytes) → Good own t → Good own u
   pub graph : withPairs kind (drop i (pairsOf kind h)) (graphIn u) ≡ withPairs kind (pairsOf kind h) (graphIn t)
   pub within : (x : Bytes) → List·Memᴰ x (tableNames u) → List·Memᴰ x (allOf t h)
   pub subgraph : u .sizes .subgraph ≤ t .sizes .subgraph + subgraphMore kind i
@@ -88,9 +91,10 @@ pub record Putting (kind : Kind) (t : Tables) (h : GraphName) (i : ℕ) (u : Tab
   pub trans : length (u .trans) ≡ length (t .trans)
   pub pool : length (u .pool) ≡ length (t .pool)
 
-pub putting-start : (kind : Kind) (t : Tables) (h : GraphName) → Good t → Putting kind t h 0 t
-putting-start kind t h g = record {
-  good = g;
+pub putting-start : (kind : Kind) (t : Tables) (h : GraphName) → Kept t → Putting kind t h 0 t
+putting-start kind t h k = record {
+  kept = k;
+  good = λ own g. g;
   graph = refl;
   within = λ x m. insertAll-members bytes-order (names h) (tableNames t) x .1 (inr m);
   subgraph = omega arith;
@@ -101,18 +105,18 @@ putting-start kind t h g = record {
   pool = refl;
 }
 
-module _ (kind : Kind) (t : Tables) (h : GraphName) (start : Good t) (i : ℕ) (u : Tables) (s : Putting kind t h i u) where
+module _ (kind : Kind) (t : Tables) (h : GraphName) (start : Kept t) (i : ℕ) (u : Tables) (s : Putting kind t h i u) where
   abbrev pairs : List Pair
   pairs = pairsOf kind h
 
   count-names : length (tableNames u) ≡ u .sizes .names
-  count-names = length-names (u .pool) (u .sizes .names) (u .refs) (s .good .kept .count)
+  count-names = length-names (u .pool) (u .sizes .names) (u .refs) (s .kept .count)
 
   names-few : u .sizes .names ≤ length (allOf t h)
-  names-few = omega (arith, fewer (tableNames u) (allOf t h) (s .good .kept .order) (all-ascending t h start) (s .within), count-names)
+  names-few = omega (arith, fewer (tableNames u) (allOf t h) (s .kept .order) (all-ascending t h start) (s .within), count-names)
 
   names-short : u .sizes .bytes ≤ length (bodies (allOf t h))
-  names-short = omega (arith, shorter (tableNames u) (allOf t h) (s .good .kept .order) (all-ascending t h start) (s .within), s .good .kept .total)
+  names-short = omega (arith, shorter (tableNames u) (allOf t h) (s .kept .order) (all-ascending t h start) (s .within), s .kept .total)
 
   -- room for the next
   pub putting-room : (from to : Bytes) → MergeRoom t h (subgraphMore kind (length pairs)) (translationMore kind (length pairs)) → i < length pairs
@@ -130,6 +134,7 @@ module _ (kind : Kind) (t : Tables) (h : GraphName) (start : Good t) (i : ℕ) (
   putting-end l k =
       let e : i ≡ length pairs = omega arith in
       record {
+        kept = s .kept;
         good = s .good;
         graph = rw (drop-of-length-le pairs {i = i} l) at (s .graph);
         within = s .within;
@@ -145,7 +150,8 @@ module _ (kind : Kind) (t : Tables) (h : GraphName) (start : Good t) (i : ℕ) (
       let q : Pair = record { from = from; to = to } in
       let step : drop i pairs ≡ q ∷ drop (i + 1) pairs = drop-cons pairs i none-pair l ∙ rw (e, add-one i) in
       record {
-        good = p .good;
+        kept = p .kept;
+        good = λ own g. good-put own kind u w from to (s .good own g) p;
         graph = ap (withPairs kind (drop (i + 1) pairs)) (p .graph) ∙ rw step at (s .graph);
         within = inside;
         subgraph =
@@ -153,8 +159,8 @@ module _ (kind : Kind) (t : Tables) (h : GraphName) (start : Good t) (i : ℕ) (
               arith,
               with-subgraph kind q (graphIn u),
               ap (λ (g : GraphName). length (g .subgraph)) (p .graph),
-              count-subgraph u (s .good),
-              count-subgraph w (p .good),
+              count-subgraph u (s .kept),
+              count-subgraph w (p .kept),
               s .subgraph,
               more-subgraph kind i,
             );
@@ -163,8 +169,8 @@ module _ (kind : Kind) (t : Tables) (h : GraphName) (start : Good t) (i : ℕ) (
               arith,
               with-translation kind q (graphIn u),
               ap (λ (g : GraphName). length (g .translation)) (p .graph),
-              count-translation u (s .good),
-              count-translation w (p .good),
+              count-translation u (s .kept),
+              count-translation w (p .kept),
               s .translation,
               more-translation kind i,
             );
@@ -183,9 +189,8 @@ module _ (kind : Kind) (t : Tables) (h : GraphName) (start : Good t) (i : ℕ) (
       inside x m =
           ⊎-elim
           (λ (d : x ≡ to). listed x (inr d))
-          (λ (n : List·Memᴰ x (insert compareBytes from (names (graphIn u)))). ⊎-elim
+          (λ (n : List·Memᴰ x (insert compareBytes from (tableNames u))). ⊎-elim
           (λ (d : x ≡ from). listed x (inl d))
-          (λ (k : List·Memᴰ x (names (graphIn u))). s .within x (rw (s .good .used) at k))
-          (insert-members bytes-order from (names (graphIn u)) x .0 n))
-          (insert-members bytes-order to (insert compareBytes from (names (graphIn u))) x .0
-          (rw (sym (p .good .used) ∙ ap names (p .graph) ∙ names-withPair kind (record { from = from; to = to }) (graphIn u)) at m))
+          (s .within x)
+          (insert-members bytes-order from (tableNames u) x .0 n))
+          (insert-members bytes-order to (insert compareBytes from (tableNames u)) x .0 (rw (p .names) at m))

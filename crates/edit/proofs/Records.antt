@@ -19,7 +19,6 @@ use Rattle.record.proofs.Held.{Held}
 use Rattle.record.proofs.Laws.{decoded, decode-held, decode-shown}
 use Rattle.record.proofs.Access.{name-within, record-pairCount, record-pair, pair-within}
 use Rattle.record.proofs.Sizes.{Sizes, judge-sizes}
-use Rattle.tables.specs.Judging.{owned}
 use Rattle.edit.proofs.Merge.{none-pair}
 
 module _ (b : Bytes) (v : isSome (decode b) ≡ true) where
@@ -79,10 +78,12 @@ module _ (b : Bytes) (v : isSome (decode b) ≡ true) where
           (rw (ef ∙ ap (nameAt b) ex) (name-short (number b (at + 4 * i)) (w .0)), rw (et ∙ ap (nameAt b) ey) (name-short (number b (at + 4 * i + 2)) (w .1)))
 
 -- the own name as the code reads it
-pub own-shown : (b : Bytes) (own : ℕ) (name : Bytes) (g : GraphName) → (own ≡ 0 → ⊥) → own ≡ number b 2 → name ≡ nameAt b (own - 1)
-    → owned (some name) g ≡ owned (ownAt b (number b 2)) g
-own-shown b own name g z e n = rw (← e) (go own z n)
+pub own-none : (b : Bytes) → number b 2 ≡ 0 → shown b .name ≡ none
+own-none b e = unfold shown in ap (ownAt b) e
+
+pub own-some : (b : Bytes) (own : ℕ) → own ≡ number b 2 → (own ≡ 0 → ⊥) → shown b .name ≡ some (nameAt b (own - 1))
+own-some b own e z = unfold shown in ap (ownAt b) (sym e) ∙ go own z
   where
-    go : (own : ℕ) → (own ≡ 0 → ⊥) → name ≡ nameAt b (own - 1) → owned (some name) g ≡ owned (ownAt b own) g
-    go zero z n = absurd (z refl)
-    go (suc i) z n = let d : suc i - 1 ≡ i = omega arith in ap (λ (x : Bytes). owned (some x) g) (n ∙ ap (nameAt b) d)
+    go : (own : ℕ) → (own ≡ 0 → ⊥) → ownAt b own ≡ some (nameAt b (own - 1))
+    go zero z = absurd (z refl)
+    go (suc i) z = let d : suc i - 1 ≡ i = omega arith in rw d

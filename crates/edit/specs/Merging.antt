@@ -1,7 +1,7 @@
 -- The pairs of a record put into tables: the room that they take, and what the tables show then. Assumes nothing.
 use mathlib.Core.Path.{_≡_}
 use mathlib.Core.List.{List, [], _∷_, List·Memᴰ}
-use mathlib.Core.Option.{none}
+use mathlib.Core.Option.{Option}
 use Prim.Native.Nat.{ℕ, _+_, _≤_, _<_}
 use lib.ListN.{length}
 use Rattle.model.specs.declared.Kind.{Kind}
@@ -9,8 +9,8 @@ use Rattle.model.specs.declared.Kind.the-variants.{Subgraph, Translation}
 use Rattle.model.specs.Bytes.{Bytes, compareBytes}
 use Rattle.model.specs.Record.{Pair, GraphName, insertAll, withPair, withRelationships, names, bodies}
 use Rattle.model.specs.Questions.{pairsOf}
-use Rattle.tables.specs.Tables.{Tables, tableNames, graphIn, Good}
-use Rattle.tables.specs.Judging.{owned}
+use Rattle.tables.specs.Tables.{Tables, tableNames, graphIn, Kept}
+use Rattle.tables.specs.Judging.{Good}
 
 -- pairs of a kind added, one after the other
 abbrev pub withPairs : Kind → List Pair → GraphName → GraphName
@@ -39,7 +39,8 @@ pub record MergeRoom (t : Tables) (h : GraphName) (s m : ℕ) : Type 0 where
 
 -- u are the tables t with all pairs of a kind of h
 pub record PairsPut (kind : Kind) (t : Tables) (h : GraphName) (u : Tables) : Type 0 where
-  pub good : Good u
+  pub kept : Kept u
+  pub good : (own : Option Bytes) → Good own t → Good own u
   pub graph : graphIn u ≡ withPairs kind (pairsOf kind h) (graphIn t)
   pub within : (x : Bytes) → List·Memᴰ x (tableNames u) → List·Memᴰ x (allOf t h)
   pub subgraph : u .sizes .subgraph ≤ t .sizes .subgraph + subgraphMore kind (length (pairsOf kind h))
@@ -47,25 +48,10 @@ pub record PairsPut (kind : Kind) (t : Tables) (h : GraphName) (u : Tables) : Ty
 
 -- u are the tables t with all pairs of h, of both kinds
 pub record Merged (t : Tables) (h : GraphName) (u : Tables) : Type 0 where
-  pub good : Good u
+  pub kept : Kept u
+  pub good : (own : Option Bytes) → Good own t → Good own u
   pub graph : graphIn u ≡ withRelationships h (graphIn t)
   pub count : u .sizes .names ≤ length (allOf t h)
   pub bytes : u .sizes .bytes ≤ length (bodies (allOf t h))
   pub subgraph : u .sizes .subgraph ≤ t .sizes .subgraph + length (h .subgraph)
   pub translation : u .sizes .translation ≤ t .sizes .translation + length (h .translation)
-
--- tables as long as the operations lend them
-pub record TableRoom (refs subs trans : List ℕ) (pool : Bytes) : Type 0 where
-  pub refs-long : length refs ≡ 1028
-  pub subs-long : length subs ≡ 2050
-  pub trans-long : length trans ≡ 2050
-  pub pool-long : length pool ≡ 45808
-
--- u are tables with all pairs of a graph name within the sizes, and nothing else
-pub record Loaded (g : GraphName) (u : Tables) : Type 0 where
-  pub good : Good u
-  pub graph : graphIn u ≡ owned none g
-  pub count : u .sizes .names ≤ 512
-  pub bytes : u .sizes .bytes ≤ 22520
-  pub subgraph : u .sizes .subgraph ≤ 1024
-  pub translation : u .sizes .translation ≤ 1024

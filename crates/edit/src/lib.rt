@@ -1,5 +1,7 @@
 // Making and changing records: the operations on record buffers, over the working tables.
+mod changing;
 mod keeping;
+mod loading;
 mod merging;
 mod operations;
 

@@ -1,4 +1,4 @@
-// The pairs of a record put into the tables: reading a record into empty tables, and merging another.
+// The pairs of another record put into tables.
 use model::Kind;
 use record::name_at;
 use tables::Sizes;
@@ -6,13 +6,12 @@ use tables::put_pair;
 use text::read16;
 ghost use mathlib.Core.Path.{_≡_};
 ghost use mathlib.Core.Bool.{true};
-ghost use mathlib.Core.Option.{none};
-ghost use Prim.Native.Nat.{_≤_, _<_};
+ghost use Prim.Native.Nat.{_<_};
 ghost use lib.ListN.{length};
 ghost use Rattle.model.specs.Layout.{shown, decode};
 ghost use Rattle.model.specs.Questions.{isSome, pairsOf};
-ghost use Rattle.tables.specs.Tables.{tables, Good};
-ghost use Rattle.edit.specs.Merging.{subgraphMore, translationMore, MergeRoom, PairsPut, Merged, TableRoom, Loaded};
+ghost use Rattle.tables.specs.Tables.{tables, Kept};
+ghost use Rattle.edit.specs.Merging.{subgraphMore, translationMore, MergeRoom, PairsPut, Merged};
 
 // Puts all pairs of a kind of another record into the tables.
 fn add_pairs(
@@ -24,7 +23,7 @@ fn add_pairs(
     sizes: Sizes,
     other: &[u8],
 ) -> Sizes
-    requires { ⌜ Good (tables (now refs) (now subs) (now trans) (now pool) sizes) × (isSome (decode (now other)) ≡ true) ⌝ }
+    requires { ⌜ Kept (tables (now refs) (now subs) (now trans) (now pool) sizes) × (isSome (decode (now other)) ≡ true) ⌝ }
     requires { ⌜ MergeRoom (tables (now refs) (now subs) (now trans) (now pool) sizes) (shown (now other)) (subgraphMore kind (length (pairsOf kind (shown (now other))))) (translationMore kind (length (pairsOf kind (shown (now other))))) ⌝ }
     ensures { λ r. ⌜ PairsPut kind (tables (now (refs .entry)) (now (subs .entry)) (now (trans .entry)) (now (pool .entry)) sizes) (shown (now (other .entry))) (tables (now (refs .exit)) (now (subs .exit)) (now (trans .exit)) (now (pool .exit)) r) ⌝ }
 {
@@ -51,30 +50,10 @@ pub(crate) fn add_all(
     sizes: Sizes,
     other: &[u8],
 ) -> Sizes
-    requires { ⌜ Good (tables (now refs) (now subs) (now trans) (now pool) sizes) × (isSome (decode (now other)) ≡ true) ⌝ }
+    requires { ⌜ Kept (tables (now refs) (now subs) (now trans) (now pool) sizes) × (isSome (decode (now other)) ≡ true) ⌝ }
     requires { ⌜ MergeRoom (tables (now refs) (now subs) (now trans) (now pool) sizes) (shown (now other)) (length (shown (now other) .subgraph)) (length (shown (now other) .translation)) ⌝ }
     ensures { λ r. ⌜ Merged (tables (now (refs .entry)) (now (subs .entry)) (now (trans .entry)) (now (pool .entry)) sizes) (shown (now (other .entry))) (tables (now (refs .exit)) (now (subs .exit)) (now (trans .exit)) (now (pool .exit)) r) ⌝ }
 {
     let half = add_pairs(Kind::Subgraph, refs, subs, trans, pool, sizes, other);
     add_pairs(Kind::Translation, refs, subs, trans, pool, half, other)
-}
-
-// Reads a record into the tables, without its own name.
-pub(crate) fn load(
-    refs: &mut [u32],
-    subs: &mut [u32],
-    trans: &mut [u32],
-    pool: &mut [u8],
-    buffer: &[u8],
-) -> Sizes
-    requires { ⌜ TableRoom (now refs) (now subs) (now trans) (now pool) × (isSome (decode (now buffer)) ≡ true) ⌝ }
-    ensures { λ r. ⌜ Loaded (shown (now (buffer .entry))) (tables (now (refs .exit)) (now (subs .exit)) (now (trans .exit)) (now (pool .exit)) r) ⌝ }
-{
-    let sizes = Sizes {
-        names: 0,
-        bytes: 0,
-        subgraph: 0,
-        translation: 0,
-    };
-    add_all(refs, subs, trans, pool, sizes, buffer)
 }

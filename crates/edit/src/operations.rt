@@ -1,47 +1,28 @@
 // The operations that make and change records. Each gives document 01's number, 0 for done; a refusal leaves the buffer, save that
 // `new` leaves the empty record on 11.
-use crate::keeping::keep_named;
-use crate::merging::add_all;
-use crate::merging::load;
+use crate::changing::change;
 use model::Kind;
 use record::name_at;
 use tables::Sizes;
 use tables::clear;
-use tables::name_table;
-use tables::pair_table;
-use tables::pool;
 use tables::put_name;
-use tables::put_pair;
+use tables::small_name_table;
+use tables::small_pair_table;
+use tables::small_pool;
 use tables::store;
+use text::copy;
+use text::part;
 use text::read16;
 ghost use mathlib.Core.Path.{_≡_};
 ghost use mathlib.Core.Bool.{true};
 ghost use Prim.Native.Nat.{_-_, _≤_, _<_};
 ghost use lib.ListN.{length};
-ghost use Rattle.model.specs.Record.{empty, withName, withPair, withRelationships};
-ghost use Rattle.model.specs.Layout.{nameAt, shown, encode, decode};
 ghost use Rattle.model.specs.Numbers.{number};
 ghost use Rattle.model.specs.Questions.{isSome};
+ghost use Rattle.model.specs.Record.{empty, withName, withPair, withRelationships};
+ghost use Rattle.model.specs.Layout.{nameAt, shown, encode, decode};
+ghost use Rattle.edit.specs.Loading.{LoadRoom};
 ghost use Rattle.model.specs.Outcome.{keptOr, addPair, addSubgraph, addTranslation, addRelationships, relate, makeSubgraphOf, addTranslationTo, newRecord};
-
-// Adds a pair of short names to a record.
-fn add_short(kind: Kind, buffer: &mut [u8], from: &[u8], to: &[u8]) -> u32
-    requires { ⌜ (isSome (decode (now buffer)) ≡ true) × (length (now from) ≤ 256) × (length (now to) ≤ 256) ⌝ }
-    ensures { λ r. ⌜ r ≡ keptOr (now (buffer .entry)) (withPair kind (record { from = now (from .entry); to = now (to .entry) }) (shown (now (buffer .entry)))) .number ⌝ }
-    ensures { λ _. ⌜ now (buffer .exit) ≡ keptOr (now (buffer .entry)) (withPair kind (record { from = now (from .entry); to = now (to .entry) }) (shown (now (buffer .entry)))) .buffer ⌝ }
-{
-    let mut names = name_table();
-    let mut subgraph = pair_table();
-    let mut translation = pair_table();
-    let mut bodies = pool();
-    let refs: &mut [u32] = &mut names;
-    let subs: &mut [u32] = &mut subgraph;
-    let trans: &mut [u32] = &mut translation;
-    let bytes: &mut [u8] = &mut bodies;
-    let sizes = load(refs, subs, trans, bytes, buffer);
-    let added = put_pair(kind, refs, subs, trans, bytes, sizes, from, to);
-    keep_named(buffer, refs, subs, trans, bytes, added)
-}
 
 // Adds a pair of a kind to a record, unless either name is empty.
 fn add(kind: Kind, buffer: &mut [u8], from: &[u8], to: &[u8]) -> u32
@@ -64,7 +45,7 @@ fn add(kind: Kind, buffer: &mut [u8], from: &[u8], to: &[u8]) -> u32
     if 256 < to.len() {
         return 11;
     }
-    add_short(kind, buffer, from, to)
+    change(buffer, false, b"", true, kind, from, to)
 }
 
 // Adds a subgraph pair to a record, unless either name is empty.
@@ -83,25 +64,6 @@ pub fn add_translation(buffer: &mut [u8], from: &[u8], to: &[u8]) -> u32
     add(Kind::Translation, buffer, from, to)
 }
 
-// Adds all pairs of another record.
-fn merge(buffer: &mut [u8], other: &[u8]) -> u32
-    requires { ⌜ (isSome (decode (now buffer)) ≡ true) × (isSome (decode (now other)) ≡ true) ⌝ }
-    ensures { λ r. ⌜ r ≡ keptOr (now (buffer .entry)) (withRelationships (shown (now (other .entry))) (shown (now (buffer .entry)))) .number ⌝ }
-    ensures { λ _. ⌜ now (buffer .exit) ≡ keptOr (now (buffer .entry)) (withRelationships (shown (now (other .entry))) (shown (now (buffer .entry)))) .buffer ⌝ }
-{
-    let mut names = name_table();
-    let mut subgraph = pair_table();
-    let mut translation = pair_table();
-    let mut bodies = pool();
-    let refs: &mut [u32] = &mut names;
-    let subs: &mut [u32] = &mut subgraph;
-    let trans: &mut [u32] = &mut translation;
-    let bytes: &mut [u8] = &mut bodies;
-    let sizes = load(refs, subs, trans, bytes, buffer);
-    let all = add_all(refs, subs, trans, bytes, sizes, other);
-    keep_named(buffer, refs, subs, trans, bytes, all)
-}
-
 // Adds all pairs of another record to a record, and no own name.
 pub fn add_relationships(buffer: &mut [u8], other: &[u8]) -> u32
     ensures { λ r. ⌜ r ≡ addRelationships (now (buffer .entry)) (now (other .entry)) .number ⌝ }
@@ -111,7 +73,14 @@ pub fn add_relationships(buffer: &mut [u8], other: &[u8]) -> u32
     if fault != 0 {
         return fault;
     }
-    merge(buffer, other)
+    change(buffer, true, other, false, Kind::Subgraph, b"", b"")
+}
+
+// A place for an own name.
+fn own_buffer() -> [u8; 256]
+    ensures { λ r. ⌜ length r ≡ 256 ⌝ }
+{
+    [0; 256]
 }
 
 // Adds all pairs of the parent and the pair of the two own names, whose numbers are one more than their places.
@@ -121,20 +90,12 @@ fn relate_named(kind: Kind, buffer: &mut [u8], parent: &[u8], own: usize, up: us
     ensures { λ r. ⌜ r ≡ keptOr (now (buffer .entry)) (withPair kind (record { from = nameAt (now (buffer .entry)) (own - 1); to = nameAt (now (parent .entry)) (up - 1) }) (withRelationships (shown (now (parent .entry))) (shown (now (buffer .entry))))) .number ⌝ }
     ensures { λ _. ⌜ now (buffer .exit) ≡ keptOr (now (buffer .entry)) (withPair kind (record { from = nameAt (now (buffer .entry)) (own - 1); to = nameAt (now (parent .entry)) (up - 1) }) (withRelationships (shown (now (parent .entry))) (shown (now (buffer .entry))))) .buffer ⌝ }
 {
-    let mut names = name_table();
-    let mut subgraph = pair_table();
-    let mut translation = pair_table();
-    let mut bodies = pool();
-    let refs: &mut [u32] = &mut names;
-    let subs: &mut [u32] = &mut subgraph;
-    let trans: &mut [u32] = &mut translation;
-    let bytes: &mut [u8] = &mut bodies;
-    let sizes = load(refs, subs, trans, bytes, buffer);
-    let both = add_all(refs, subs, trans, bytes, sizes, parent);
-    let from = name_at(buffer, own - 1);
+    let mut held = own_buffer();
+    let place: &mut [u8] = &mut held;
+    let n = copy(place, 0, name_at(buffer, own - 1));
+    let from = part(place, 0, n);
     let to = name_at(parent, up - 1);
-    let more = put_pair(kind, refs, subs, trans, bytes, both, from, to);
-    keep_named(buffer, refs, subs, trans, bytes, more)
+    change(buffer, true, parent, true, kind, from, to)
 }
 
 // Makes the graph a child of the parent by a relation of a kind; does nothing if either is unnamed.
@@ -173,27 +134,45 @@ pub fn add_translation_to(buffer: &mut [u8], parent: &[u8]) -> u32
     relate_to(Kind::Translation, buffer, parent)
 }
 
-// Writes the record of a short name alone.
-fn write_name(name: &[u8], buffer: &mut [u8])
-    requires { ⌜ (length (now name) ≤ 256) × (length (now buffer) ≡ 32768) ⌝ }
+// Writes the record of a short name alone, over tables that are lent.
+fn write_in(
+    refs: &mut [u32],
+    subs: &mut [u32],
+    trans: &mut [u32],
+    pool: &mut [u8],
+    name: &[u8],
+    buffer: &mut [u8],
+)
+    requires { ⌜ LoadRoom (withName (now name) empty) (now refs) (now subs) (now trans) (now pool) × (length (now name) ≤ 256) × (length (now buffer) ≡ 32768) ⌝ }
     ensures { λ _. ⌜ now (buffer .exit) ≡ encode (withName (now (name .entry)) empty) ⌝ }
 {
-    let mut names = name_table();
-    let mut subgraph = pair_table();
-    let mut translation = pair_table();
-    let mut bodies = pool();
-    let refs: &mut [u32] = &mut names;
-    let subs: &mut [u32] = &mut subgraph;
-    let trans: &mut [u32] = &mut translation;
-    let bytes: &mut [u8] = &mut bodies;
     let sizes = Sizes {
         names: 0,
         bytes: 0,
         subgraph: 0,
         translation: 0,
     };
-    let p = put_name(refs, subs, trans, bytes, sizes, name);
-    store(refs, subs, trans, bytes, p.sizes, p.place + 1, buffer);
+    let p = put_name(refs, subs, trans, pool, sizes, name);
+    store(refs, subs, trans, pool, p.sizes, p.place + 1, buffer);
+}
+
+// Writes the record of a short name alone.
+fn write_name(name: &[u8], buffer: &mut [u8])
+    requires { ⌜ (length (now name) ≤ 256) × (length (now buffer) ≡ 32768) ⌝ }
+    ensures { λ _. ⌜ now (buffer .exit) ≡ encode (withName (now (name .entry)) empty) ⌝ }
+{
+    let mut names = small_name_table();
+    let mut subgraph = small_pair_table();
+    let mut translation = small_pair_table();
+    let mut bodies = small_pool();
+    write_in(
+        &mut names,
+        &mut subgraph,
+        &mut translation,
+        &mut bodies,
+        name,
+        buffer,
+    );
 }
 
 // Writes the record of a name alone into a buffer, whatever it held; of a long name the empty record.

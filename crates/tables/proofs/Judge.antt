@@ -1,5 +1,5 @@
 -- The sizes of the graph name that tables show with an own name: the names are counted once, and the rest are counts at hand.
-use mathlib.Core.Path.{_≡_, refl, sym, ap, _∙_}
+use mathlib.Core.Path.{_≡_, refl, sym, ap, subst, _∙_}
 use mathlib.Core.Logic.{inl, inr, ⊎-elim}
 use mathlib.Core.Bool.{Bool, true, false, _||_}
 use mathlib.Core.List.{List, [], _∷_, map, List·Memᴰ, List·Memᴰ·head, List·Memᴰ·tail, List·Memᴰ·cases-cons}
@@ -14,21 +14,24 @@ use borrow.Author.Tests.{lt-ltb, le-ltb, eq-eqb, ne-eqb}
 use Rattle.model.specs.declared.Order.{Order}
 use Rattle.model.specs.declared.Order.the-variants.{Less, Equal, Greater}
 use Rattle.model.specs.Bytes.{Bytes, byOrder, compareBytes}
-use Rattle.model.specs.Record.{GraphName, insert, names, anyLong, bodies, judge}
+use Rattle.model.specs.declared.Kind.{Kind}
+use Rattle.model.specs.declared.Kind.the-variants.{Subgraph, Translation}
+use Rattle.model.specs.Record.{Pair, GraphName, insert, withPair, names, anyLong, bodies, judge}
 use Rattle.model.specs.Layout.{encode}
 use Rattle.model.specs.Outcome.{keptOr}
 use Rattle.record.specs.Coded.{nameIn, pairIn, meaning}
 use Rattle.record.proofs.Sizes.{judge-sizes}
-use Rattle.record.proofs.Names.{allNames, names-ascending, names-members}
+use Rattle.record.proofs.Names.{allNames, names-ascending, names-members, own-listed}
 use Rattle.text.proofs.Order.{bytes-order}
-use Rattle.text.proofs.Ascending.{insert-members, insert-ascending, ascending-unique}
+use Rattle.text.proofs.Ascending.{insert-members, insert-ascending, insert-present, ascending-unique}
 use Rattle.tables.specs.Sorted.{lower}
-use Rattle.tables.specs.Tables.{Tables, namesIn, tableNames, graphIn, readOut, placesOf, pairsIn, holdsAt, Good, NamePut, Storable}
+use Rattle.tables.specs.Tables.{Tables, namesIn, tableNames, graphIn, readOut, placesOf, pairsIn, holdsAt, NamePut, PairPut, Storable}
 use Rattle.tables.specs.declared.putting.Sizes.{Sizes}
-use Rattle.tables.specs.Judging.{owned, ownIf, namesAnd, countFault, sizeFault, NamesKept, Ready}
+use Rattle.tables.specs.Judging.{owned, ownIf, namesAnd, countFault, sizeFault, NamesKept, Good, Ready}
 use Rattle.tables.proofs.Lower.{lower-le, insert-new, insert-there}
 use Rattle.tables.proofs.Splice.{length-spliced, length-bodies-spliced}
 use Rattle.tables.proofs.Search.{length-names}
+use Rattle.tables.proofs.Pairs.{names-withPair}
 use Rattle.tables.proofs.PutName.{holds-true, holds-false}
 use Rattle.tables.proofs.PutPair.{insert-at-lower}
 
@@ -81,7 +84,7 @@ any-insert n (m ∷ ms) = go (compareBytes n m) refl (any-insert n ms)
 pub length-shown : (ns : List Bytes) (k : ℕ) (xs : List ℕ) → k ≤ length xs → length (map (pairIn ns) (pairsIn k xs)) ≡ k
 length-shown ns k xs h = length-map (pairsIn k xs) (pairIn ns) ∙ length-map (take k xs) placesOf ∙ length-take-le k xs h
 
-pub judge-tables : (t : Tables) (o : Option Bytes) → Good t
+pub judge-tables : (t : Tables) (o : Option Bytes) → Good none t
     → judge (owned o (graphIn t)) ≡ sizeFault (namesAnd o (tableNames t)) (t .sizes .subgraph) (t .sizes .translation)
 unfolding judge countFault
 judge-tables t o g =
@@ -197,22 +200,61 @@ module _ (t : Tables) (own : ℕ) (r : Ready t own) where
   pub kept-refused : (b : Bytes) → (fault ≡ 0 → ⊥) → keptOr b g ≡ record { number = fault; buffer = b }
   kept-refused b n = rw (ne-eqb (judge g) 0 (λ e. n (sym judge-ready ∙ e)), judge-ready)
 
+-- a pair put in uses its names
+owned-pair : (own : Option Bytes) (kind : Kind) (p : Pair) (g : GraphName) → owned own (withPair kind p g) ≡ withPair kind p (owned own g)
+owned-pair own Subgraph p g = refl
+owned-pair own Translation p g = refl
+
+pub good-put : (own : Option Bytes) (kind : Kind) (t u : Tables) (from to : Bytes) → Good own t → PairPut kind t from to u → Good own u
+good-put own kind t u from to g put =
+    let p : Pair = record { from = from; to = to } in
+    record {
+      kept = put .kept;
+      used =
+          ap (λ (x : GraphName). names (owned own x)) (put .graph)
+          ∙ ap names (owned-pair own kind p (graphIn t))
+          ∙ names-withPair kind p (owned own (graphIn t))
+          ∙ ap (λ (ns : List Bytes). insert compareBytes to (insert compareBytes from ns)) (g .used)
+          ∙ sym (put .names);
+    }
+
 -- tables whose names are all used are ready with no own name, and with one that was put in
-pub ready-without : (t : Tables) → Good t → Ready t 0
+pub ready-without : (t : Tables) → Good none t → Ready t 0
 ready-without t g = record { kept = g .kept; own-within = omega arith; used = g .used }
 
-module _ (t u : Tables) (own : Bytes) (p : ℕ) (good : Good t) (put : NamePut t own u p) where
+module _ (t u : Tables) (own : Bytes) (p : ℕ) (put : NamePut t own u p) where
   at-place : (p < length (tableNames u)) × (nameIn (tableNames u) p ≡ own)
   at-place = rw (put .names, put .place) (insert-at-lower bytes-order [] own (tableNames t))
 
   pub meaning-own : meaning (readOut u (p + 1)) ≡ owned (some own) (graphIn t)
   meaning-own = rw (add-one p, at-place .1) (ap (owned (some own)) (put .graph))
 
-  pub ready-own : Ready u (p + 1)
-  ready-own =
+  pub ready-own : Good none t → Ready u (p + 1)
+  ready-own good =
       let n = length-names (u .pool) (u .sizes .names) (u .refs) (put .kept .count) in
       record {
         kept = put .kept;
         own-within = omega (arith, at-place .0);
         used = ap names meaning-own ∙ names-owned (some own) (graphIn t) ∙ ap (insert compareBytes own) (good .used) ∙ sym (put .names);
       }
+
+-- so are tables among whose names the own name is
+module _ (t : Tables) (own : Bytes) (p : ℕ) (good : Good (some own) t) (place : p ≡ lower compareBytes own (tableNames t)) where
+  there : insert compareBytes own (tableNames t) ≡ tableNames t
+  there =
+      insert-present bytes-order own (tableNames t) (good .kept .order)
+      (rw (good .used) at (own-listed (owned (some own) (graphIn t)) own (List·Memᴰ·head refl)))
+
+  placed : (p < length (tableNames t)) × (nameIn (tableNames t) p ≡ own)
+  placed =
+      rw place
+      (subst (λ (ns : List Bytes). (lower compareBytes own (tableNames t) < length ns) × (nameIn ns (lower compareBytes own (tableNames t)) ≡ own)) there
+      (insert-at-lower bytes-order [] own (tableNames t)))
+
+  pub meaning-placed : meaning (readOut t (p + 1)) ≡ owned (some own) (graphIn t)
+  meaning-placed = rw (add-one p, placed .1)
+
+  pub ready-placed : Ready t (p + 1)
+  ready-placed =
+      let n = length-names (t .pool) (t .sizes .names) (t .refs) (good .kept .count) in
+      record { kept = good .kept; own-within = omega (arith, placed .0); used = ap names meaning-placed ∙ good .used }

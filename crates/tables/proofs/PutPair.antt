@@ -22,12 +22,12 @@ use Rattle.text.proofs.Order.{StrictOrder, opposite, numbers-order, bytes-order
 use Rattle.text.proofs.Ascending.{insert-ascending, insert-member}
 use Rattle.text.proofs.Places.{ascending-places}
 use Rattle.tables.specs.Sorted.{lower, spliced, placeAfter}
-use Rattle.tables.specs.Tables.{Tables, tables, tableNames, graphIn, placesOf, pairsIn, holdsAt, KeptPairs, Good, NameRoom, PairRoom, NamePut, PairPut}
+use Rattle.tables.specs.Tables.{Tables, tables, tableNames, graphIn, placesOf, pairsIn, holdsAt, KeptPairs, NameRoom, PairRoom, NamePut, PairPut}
 use Rattle.tables.proofs.Lower.{lower-le, insert-new, insert-there}
 use Rattle.tables.proofs.Splice.{length-spliced}
 use Rattle.tables.proofs.Renumber.{Small, above-le, small-member, name-up}
 use Rattle.tables.proofs.Search.{length-names}
-use Rattle.tables.proofs.Pairs.{insert-map, names-withPair}
+use Rattle.tables.proofs.Pairs.{insert-map}
 use Rattle.tables.proofs.PutName.{holds-true, holds-false}
 
 -- ------------------------------------------------------------------ the places of the names
@@ -87,7 +87,7 @@ under-members n [] h = tt
 under-members n (x ∷ xs) h = let s = h x (List·Memᴰ·head refl) in (s .0, s .1, under-members n xs (λ y m. h y (List·Memᴰ·tail m)))
 
 -- numbers compare as their places do
-compare-places : (x y : ℕ) → comparePlaces (placesOf x) (placesOf y) ≡ compareNumbers x y
+pub compare-places : (x y : ℕ) → comparePlaces (placesOf x) (placesOf y) ≡ compareNumbers x y
 unfolding comparePlaces
 compare-places x y = go (compareNumbers (x / 65536) (y / 65536)) refl (compared-numbers (x / 65536) (y / 65536))
   where
@@ -136,7 +136,7 @@ pub second-room : (t u : Tables) (from to : Bytes) (a : ℕ) → PairRoom t from
 second-room t u from to a r p h l = record { short = r .to-short; count = omega (arith, r .count, p .count); room = omega (arith, r .room, p .bytes) }
 
 -- with both names in
-module _ (t u w : Tables) (from to : Bytes) (a b x : ℕ) (good : Good t) (first : NamePut t from u a) (second : NamePut u to w b)
+module _ (t u w : Tables) (from to : Bytes) (a b x : ℕ) (first : NamePut t from u a) (second : NamePut u to w b)
     (moved : x ≡ placeAfter (u .sizes .names) (w .sizes .names) b a) where
   abbrev ns : List Bytes
   ns = tableNames w
@@ -184,10 +184,8 @@ module _ (t u w : Tables) (from to : Bytes) (a b x : ℕ) (good : Good t) (first
   graph-same : graphIn w ≡ graphIn t
   graph-same = second .graph ∙ first .graph
 
-  names-both : (kind : Kind) → tableNames w ≡ names (withPair kind (record { from = from; to = to }) (graphIn t))
-  names-both kind =
-      second .names ∙ ap (insert compareBytes to) (first .names ∙ ap (insert compareBytes from) (sym (good .used)))
-      ∙ sym (names-withPair kind (record { from = from; to = to }) (graphIn t))
+  names-both : tableNames w ≡ insert compareBytes to (insert compareBytes from (tableNames t))
+  names-both = second .names ∙ ap (insert compareBytes to) (first .names)
 
   -- the pairs of both kinds, with the graph name that they show
   with-pairs : (kind : Kind) (s m : ℕ) (ss ms : List ℕ) → KeptPairs (w .sizes .names) s ss → KeptPairs (w .sizes .names) m ms
@@ -196,24 +194,21 @@ module _ (t u w : Tables) (from to : Bytes) (a b x : ℕ) (good : Good t) (first
       → PairPut kind t from to (tables (w .refs) ss ms (w .pool) (record { names = w .sizes .names; bytes = w .sizes .bytes; subgraph = s; translation = m }))
   with-pairs kind s m ss ms ks km e =
       let k = second .kept in
-      let graph = e ∙ ap (withPair kind (record { from = from; to = to })) graph-same in
       record {
-        good = record {
-          kept = record {
-            order = k .order;
-            short = k .short;
-            within = k .within;
-            total = k .total;
-            count = k .count;
-            room = k .room;
-            few = k .few;
-            small = k .small;
-            subgraph = ks;
-            translation = km;
-          };
-          used = ap names graph ∙ sym (names-both kind);
+        kept = record {
+          order = k .order;
+          short = k .short;
+          within = k .within;
+          total = k .total;
+          count = k .count;
+          room = k .room;
+          few = k .few;
+          small = k .small;
+          subgraph = ks;
+          translation = km;
         };
-        graph = graph;
+        names = names-both;
+        graph = e ∙ ap (withPair kind (record { from = from; to = to })) graph-same;
       }
 
   -- the number put into the table of one kind

@@ -11,7 +11,7 @@ use Rattle.model.specs.Record.{GraphName, insert, names, anyLong, bodies}
 use Rattle.model.specs.Statements.{Ascending}
 use Rattle.record.specs.Coded.{meaning}
 use Rattle.tables.specs.declared.putting.Sizes.{Sizes}
-use Rattle.tables.specs.Tables.{Tables, namesIn, tableNames, readOut, Kept}
+use Rattle.tables.specs.Tables.{Tables, namesIn, tableNames, graphIn, readOut, Kept}
 
 -- a graph name with this own name, or none
 abbrev pub owned : Option Bytes → GraphName → GraphName
@@ -43,6 +43,11 @@ pub record NamesKept (refs : List ℕ) (pool : Bytes) (sizes : Sizes) : Type 0 w
   pub total : sizes .bytes ≡ length (bodies (namesIn pool (sizes .names) refs))
   pub count : sizes .names ≤ length refs
   pub room : sizes .bytes ≤ length pool
+
+-- every name is used, by the pairs or as this own name
+pub record Good (own : Option Bytes) (t : Tables) : Type 0 where
+  pub kept : Kept t
+  pub used : names (owned own (graphIn t)) ≡ tableNames t
 
 -- the tables, with the own name of this number, are those of a graph name
 pub record Ready (t : Tables) (own : ℕ) : Type 0 where

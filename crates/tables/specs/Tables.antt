@@ -80,11 +80,6 @@ pub record Kept (t : Tables) : Type 0 where
   pub subgraph : KeptPairs (t .sizes .names) (t .sizes .subgraph) (t .subs)
   pub translation : KeptPairs (t .sizes .names) (t .sizes .translation) (t .trans)
 
--- and every name is used
-pub record Good (t : Tables) : Type 0 where
-  pub kept : Kept t
-  pub used : names (graphIn t) ≡ tableNames t
-
 -- there is room for a name, which is short
 pub record NameRoom (t : Tables) (name : Bytes) : Type 0 where
   pub short : length name ≤ 256
@@ -115,7 +110,8 @@ pub record NamePut (t : Tables) (name : Bytes) (u : Tables) (at : ℕ) : Type 0 
 
 -- u are the tables t with a pair put in
 pub record PairPut (kind : Kind) (t : Tables) (from to : Bytes) (u : Tables) : Type 0 where
-  pub good : Good u
+  pub kept : Kept u
+  pub names : tableNames u ≡ insert compareBytes to (insert compareBytes from (tableNames t))
   pub graph : graphIn u ≡ withPair kind (record { from = from; to = to }) (graphIn t)
 
 -- ------------------------------------------------------------------ what is stored

@@ -4,16 +4,13 @@ use crate::putting::is_at;
 use crate::putting::name_place;
 use crate::storing::store;
 ghost use mathlib.Core.Path.{_≡_};
-ghost use mathlib.Core.Bool.{true};
-ghost use Prim.Native.Nat.{_+_, _≤_, _<_};
+ghost use Prim.Native.Nat.{_+_, _<_};
 ghost use lib.ListN.{length};
 ghost use Rattle.model.specs.Numbers.{number};
-ghost use Rattle.model.specs.Layout.{ownAt, decode};
-ghost use Rattle.model.specs.Questions.{isSome};
 ghost use Rattle.model.specs.Outcome.{keptOr};
 ghost use Rattle.record.specs.Coded.{meaning};
-ghost use Rattle.tables.specs.Tables.{tables, namesIn, readOut, graphIn, Good};
-ghost use Rattle.tables.specs.Judging.{owned, ownIf, namesAnd, countFault, sizeFault, NamesKept, Ready};
+ghost use Rattle.tables.specs.Tables.{tables, namesIn, readOut};
+ghost use Rattle.tables.specs.Judging.{ownIf, namesAnd, countFault, sizeFault, NamesKept, Ready};
 
 // The first of the sizes that is over its limit: names, pairs of either kind, bytes. Or 0.
 fn count_fault(names: usize, bytes: usize, subgraph: usize, translation: usize) -> u32

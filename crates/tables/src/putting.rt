@@ -10,7 +10,7 @@ ghost use lib.ListN.{length};
 ghost use Rattle.model.specs.Bytes.{compareBytes};
 ghost use Rattle.model.specs.Statements.{Ascending};
 ghost use Rattle.tables.specs.Sorted.{lower, placeAfter};
-ghost use Rattle.tables.specs.Tables.{tables, bodyIn, namesIn, holdsAt, Kept, Good, NameRoom, PairRoom, NamePut, PairPut};
+ghost use Rattle.tables.specs.Tables.{tables, bodyIn, namesIn, holdsAt, Kept, NameRoom, PairRoom, NamePut, PairPut};
 
 // How much of the tables is in use: names, bytes of the pool, and pairs of each kind.
 pub struct Sizes {
@@ -47,6 +47,25 @@ pub fn pool() -> [u8; 45808]
     [0; 45808]
 }
 
+// The same for small graph names: 128 names and four more, 128 pairs of a kind and two more, 8,192 bytes and three names more.
+pub fn small_name_table() -> [u32; 132]
+    ensures { λ r. ⌜ length r ≡ 132 ⌝ }
+{
+    [0; 132]
+}
+
+pub fn small_pair_table() -> [u32; 130]
+    ensures { λ r. ⌜ length r ≡ 130 ⌝ }
+{
+    [0; 130]
+}
+
+pub fn small_pool() -> [u8; 8960]
+    ensures { λ r. ⌜ length r ≡ 8960 ⌝ }
+{
+    [0; 8960]
+}
+
 // The body that a number of the table of names stands for.
 pub(crate) fn body(pool: &[u8], r: u32) -> &[u8]
     ensures { λ b. ⌜ now b ≡ bodyIn (now (pool .entry)) r ⌝ }
@@ -55,7 +74,7 @@ pub(crate) fn body(pool: &[u8], r: u32) -> &[u8]
 }
 
 // How many of the n names, which ascend, are less than `name`.
-pub(crate) fn name_place(refs: &[u32], pool: &[u8], n: usize, name: &[u8]) -> usize
+pub fn name_place(refs: &[u32], pool: &[u8], n: usize, name: &[u8]) -> usize
     requires { ⌜ (n ≤ length (now refs)) × Ascending compareBytes (namesIn (now pool) n (now refs)) ⌝ }
     ensures { λ r. ⌜ (r ≡ lower compareBytes (now (name .entry)) (namesIn (now (pool .entry)) n (now (refs .entry)))) × (r ≤ n) ⌝ }
 {
@@ -142,7 +161,7 @@ pub fn put_pair(
     from: &[u8],
     to: &[u8],
 ) -> Sizes
-    requires { ⌜ Good (tables (now refs) (now subs) (now trans) (now pool) sizes) ⌝ }
+    requires { ⌜ Kept (tables (now refs) (now subs) (now trans) (now pool) sizes) ⌝ }
     requires { ⌜ PairRoom (tables (now refs) (now subs) (now trans) (now pool) sizes) (now from) (now to) ⌝ }
     ensures { λ r. ⌜ PairPut kind (tables (now (refs .entry)) (now (subs .entry)) (now (trans .entry)) (now (pool .entry)) sizes) (now (from .entry)) (now (to .entry)) (tables (now (refs .exit)) (now (subs .exit)) (now (trans .exit)) (now (pool .exit)) r) ⌝ }
 {

@@ -1,114 +1,97 @@
--- The own name is absent, or goes in and is found at its place.
-use mathlib.Core.Path.{_≡_, sym, ap, _∙_}
-use Prim.Native.Nat.{_-_}
-use lib.ListN.{length}
-use Rattle.model.specs.Numbers.{number}
+-- The own name is absent, or it is found at its place.
+use mathlib.Core.Path.{_≡_, sym, ap, subst, _∙_}
+use mathlib.Core.Option.{Option, some, none}
+use Rattle.model.specs.Bytes.{Bytes}
 use Rattle.model.specs.Record.{GraphName}
+use Rattle.model.specs.Layout.{shown}
 use Rattle.model.specs.Outcome.{keptOr}
-use Rattle.tables.specs.Tables.{tables, graphIn}
-use Rattle.tables.proofs.Judge.{ready-without, ready-own, meaning-own}
-use Rattle.edit.proofs.Records.{is-held, name-short, own-shown}
+use Rattle.tables.specs.Tables.{Tables, tables, graphIn}
+use Rattle.tables.specs.Judging.{owned, Good}
+use Rattle.tables.proofs.Judge.{ready-without, ready-placed, meaning-placed}
+use Rattle.edit.proofs.Records.{is-held, own-none, own-some}
 use native.Mathlib.Omega.{arith}
 use borrow.Author.Needs.{needs}
 use Rattle.edit.proofs.keeping.keep_named.Statement.{statement}
 use Rattle.edit.proofs.keeping.keep_named.Tie as tie
 
+-- the tables as they come in
+abbrev first : tie.Start → Tables
+first s = tables (s .args .refs .now) (s .args .subs .now) (s .args .trans .now) (s .args .pool .now) (s .args .sizes)
+
+-- there is no own name
+module _ (t : tie.Then1) where
+  abbrev start : tie.Start
+  start = t .before .before .before .before .before .before .before .before
+
+  no-name : shown (start .args .buffer .now) .name ≡ none
+  no-name = own-none (start .args .buffer .now) (sym (t .before .read16 .ensures .0) ∙ t .if1 .taken)
+
+  unnamed : Good none (first start)
+  unnamed = subst (λ (o : Option Bytes). Good o (first start)) no-name (start .pre .1)
+
+-- there is one
+module _ (n : tie.After-name-at) where
+  abbrev begun : tie.Start
+  begun = n .before .before .before .before .before .before .before .before .before .before
+
+  own-name : shown (begun .args .buffer .now) .name ≡ some (n .name-at .result .now)
+  own-name = own-some (begun .args .buffer .now) _ (n .before .before .before .read16 .ensures .0) (n .before .before .if1 .left) ∙ ap (λ (x : Bytes). some x) (sym (n .name-at .ensures))
+
+  named : Good (some (n .name-at .result .now)) (first begun)
+  named = subst (λ (o : Option Bytes). Good o (first begun)) own-name (begun .pre .1)
+
 read16-requires : tie.Need-read16-requires
 read16-requires c κs =
     let s = c .before .before .before .before .before .before in
-    let a = s .args in
-    let h = is-held (a .buffer .now) (s .pre .0 .1) in
-    omega arith
+    omega (arith, is-held (s .args .buffer .now) (s .pre .0) .long)
 
 keep-requires : tie.Need-keep-requires
 keep-requires c κs =
-    let s = c .before .before .before .before .before .before .before .before .before .before .before .before .before in
-    let a = s .args in
-    (ready-without (tables (a .refs .now) (a .subs .now) (a .trans .now) (a .pool .now) (a .sizes)) (s .pre .0 .0), is-held (a .buffer .now) (s .pre .0 .1) .long)
+    let s = c .before .before .before .before .before .before .before .before .before in
+    (ready-without (first s) (unnamed (c .before)), is-held (s .args .buffer .now) (s .pre .0) .long)
 
 same-length : tie.Need-same-length
 same-length c = search needs
 
-same-length-2 : tie.Need-same-length-2
-same-length-2 c = search needs
-
-same-length-3 : tie.Need-same-length-3
-same-length-3 c = search needs
-
-same-length-4 : tie.Need-same-length-4
-same-length-4 c = search needs
-
-same-length-5 : tie.Need-same-length-5
-same-length-5 c = search needs
-
 returns : tie.Need-returns
 returns c =
-    let s = c .before .before .before .before .before .before .before .before .before .before .before .before .before .before .before .before in
-    let a = s .args in
-    let k = c .before .before .keep in
-    let r = c .before .before .before .before .before .before .before .before .before .read16 in
-    let z : number (a .buffer .now) 2 ≡ 0 = sym (r .ensures .0) ∙ c .before .before .before .before .before .before .before .before .if1 .taken in
-    rw z (k .ensures .0, k .ensures .1)
+    let t = c .before .before .before .before in
+    let k = c .before .before .keep .ensures in
+    rw (no-name t) (k .0, k .1)
 
 sub-name-at : tie.Need-sub-name-at
 sub-name-at c = search needs
 
 name-at-requires : tie.Need-name-at-requires
 name-at-requires c κs =
-    let s = c .before .before .before .before .before .before .before .before .before .before .before .before .before in
-    let a = s .args in
-    let h = is-held (a .buffer .now) (s .pre .0 .1) in
-    (h .long, omega (arith, h .count, h .own, c .before .before .before .before .before .before .read16 .ensures .0))
+    let s = c .before .before .before .before .before .before .before .before .before in
+    let h = is-held (s .args .buffer .now) (s .pre .0) in
+    (h .long, omega (arith, h .own, h .count, c .before .before .read16 .ensures .0))
 
-put-name-requires : tie.Need-put-name-requires
-put-name-requires c κs =
-    let s = c .before .before .before .before .before .before .before .before .before .before .before .before .before .before in
-    let a = s .args in
-    let h = is-held (a .buffer .now) (s .pre .0 .1) in
-    let r = c .before .before .before .before .before .before .before .read16 in
-    let n = name-short (a .buffer .now) (s .pre .0 .1) (r .result - 1) (omega (arith, h .own, r .ensures .0, c .before .before .before .before .before .before .if1 .left)) in
-    let e = ap length (c .name-at .ensures) in
-    (s .pre .0 .0 .kept, record { short = omega arith; count = s .pre .1 .0; room = omega (arith, s .pre .1 .1) })
+name-place-requires : tie.Need-name-place-requires
+name-place-requires c κs = search needs
 
 add-keep : tie.Need-add-keep
-add-keep c =
-    let s = c .before .before .before .before .before .before .before .before .before .before .before .before .before .before .before .before .before .before .before .before .before .before .before .before .before .before .before .before .before in
-    let a = s .args in
-    let n = c .before .before .before .before .before .before .before .before .before .before .before .before .before .before .put-name in
-    omega (arith, ready-own (tables (a .refs .now) (a .subs .now) (a .trans .now) (a .pool .now) (a .sizes)) (tables (n .last .0) (n .last .1 .0) (n .last .1 .1 .0) (n .last .1 .1 .1 .0) (n .result .sizes)) _ _ (s .pre .0 .0) (n .ensures) .own-within, n .ensures .kept .count, n .ensures .kept .few)
+add-keep c = search needs
 
 keep-requires-2 : tie.Need-keep-requires-2
 keep-requires-2 c κs =
-    let s = c .before .before .before .before .before .before .before .before .before .before .before .before .before .before .before .before .before .before .before .before .before .before .before .before .before .before .before .before .before in
-    let a = s .args in
-    let n = c .before .before .before .before .before .before .before .before .before .before .before .before .before .before .put-name in
-    (ready-own (tables (a .refs .now) (a .subs .now) (a .trans .now) (a .pool .now) (a .sizes)) (tables (n .last .0) (n .last .1 .0) (n .last .1 .1 .0) (n .last .1 .1 .1 .0) (n .result .sizes)) _ _ (s .pre .0 .0) (n .ensures), is-held (a .buffer .now) (s .pre .0 .1) .long)
+    let n = c .before .before in
+    let s = n .before .before .before .before .before .before .before .before .before .before in
+    let p = c .before .name-place in
+    (ready-placed (first s) _ (p .result) (named n) (p .ensures .0), is-held (s .args .buffer .now) (s .pre .0) .long)
 
-same-length-6 : tie.Need-same-length-6
-same-length-6 c = search needs
-
-same-length-7 : tie.Need-same-length-7
-same-length-7 c = search needs
-
-same-length-8 : tie.Need-same-length-8
-same-length-8 c = search needs
-
-same-length-9 : tie.Need-same-length-9
-same-length-9 c = search needs
-
-same-length-10 : tie.Need-same-length-10
-same-length-10 c = search needs
+same-length-2 : tie.Need-same-length-2
+same-length-2 c = search needs
 
 returns-2 : tie.Need-returns-2
 returns-2 c =
-    let s = c .before .before .before .before .before .before .before .before .before .before .before .before .before .before .before .before .before .before .before .before .before .before .before .before .before .before .before .before .before .before .before .before in
-    let a = s .args in
-    let n = c .before .before .before .before .before .before .before .before .before .before .before .before .before .before .before .before .before .put-name in
-    let k = c .before .before .keep2 in
-    let r = c .before .before .before .before .before .before .before .before .before .before .before .before .before .before .before .before .before .before .before .before .before .before .before .before .before .read16 in
-    let own = c .before .before .before .before .before .before .before .before .before .before .before .before .before .before .before .before .before .before .name-at .ensures in
-    let e = meaning-own (tables (a .refs .now) (a .subs .now) (a .trans .now) (a .pool .now) (a .sizes)) (tables (n .last .0) (n .last .1 .0) (n .last .1 .1 .0) (n .last .1 .1 .1 .0) (n .result .sizes)) _ _ (s .pre .0 .0) (n .ensures) ∙ own-shown (a .buffer .now) (r .result) _ (graphIn (tables (a .refs .now) (a .subs .now) (a .trans .now) (a .pool .now) (a .sizes))) (c .before .before .before .before .before .before .before .before .before .before .before .before .before .before .before .before .before .before .before .before .before .before .before .before .if1 .left) (r .ensures .0) own in
-    (k .ensures .0 ∙ ap (λ (g : GraphName). keptOr (a .buffer .now) g .number) e, k .ensures .1 ∙ ap (λ (g : GraphName). keptOr (a .buffer .now) g .buffer) e)
+    let n = c .before .before .before .before .before in
+    let s = n .before .before .before .before .before .before .before .before .before .before in
+    let p = c .before .before .before .before .name-place in
+    let k = c .before .before .keep2 .ensures in
+    let e = meaning-placed (first s) _ (p .result) (named n) (p .ensures .0) ∙ ap (λ (o : Option Bytes). owned o (graphIn (first s))) (sym (own-name n)) in
+    (k .0 ∙ ap (λ (g : GraphName). keptOr (s .args .buffer .now) g .number) e, k .1 ∙ ap (λ (g : GraphName). keptOr (s .args .buffer .now) g .buffer) e)
 
 pub keep-named-spec : {M : Type 1} → statement M
 keep-named-spec =
@@ -117,19 +100,11 @@ keep-named-spec =
     read16-requires
     keep-requires
     same-length
-    same-length-2
-    same-length-3
-    same-length-4
-    same-length-5
     returns
     sub-name-at
     name-at-requires
-    put-name-requires
+    name-place-requires
     add-keep
     keep-requires-2
-    same-length-6
-    same-length-7
-    same-length-8
-    same-length-9
-    same-length-10
+    same-length-2
     returns-2)

@@ -17,7 +17,7 @@ add-pairs-requires-2 c κs =
     let s = c .before .before .before .before .before .before .before .before .before .before .before .before .before .before .before .before .before .before .before .before .before .before in
     let a = s .args in
     let p = c .before .before .before .before .before .before .before .before .before .before .before .before .add-pairs in
-    ((p .ensures .good, s .pre .0 .1), second-merge (tables (a .refs .now) (a .subs .now) (a .trans .now) (a .pool .now) (a .sizes)) (shown (a .other .now)) (s .pre .0 .0) (s .pre .1) (tables (p .last .1 .0) (p .last .1 .1 .0) (p .last .1 .1 .1 .0) (p .last .1 .1 .1 .1 .0) (p .result)) (p .ensures) (p .kept .1 .0) (p .kept .1 .1 .0) (p .kept .1 .1 .1 .0) (p .kept .1 .1 .1 .1 .0))
+    ((p .ensures .kept, s .pre .0 .1), second-merge (tables (a .refs .now) (a .subs .now) (a .trans .now) (a .pool .now) (a .sizes)) (shown (a .other .now)) (s .pre .0 .0) (s .pre .1) (tables (p .last .1 .0) (p .last .1 .1 .0) (p .last .1 .1 .1 .0) (p .last .1 .1 .1 .1 .0) (p .result)) (p .ensures) (p .kept .1 .0) (p .kept .1 .1 .0) (p .kept .1 .1 .1 .0) (p .kept .1 .1 .1 .1 .0))
 
 same-length : tie.Need-same-length
 same-length c = search needs

@@ -101,7 +101,7 @@ put-pair-requires c κs =
     let s = l .before .before .before .before .before .before .before .before in
     let a = s .args in
     let n = names-read (a .other .now) (s .pre .0 .1) (a .kind) (l .loop .i) (inside l (c .before .before .before .before .before .before .before .before .loop-test .taken)) (l .before .table-at .result) (l .before .table-at .ensures .0) (c .before .before .before .before .before .before .before .read16 .result) (c .before .before .before .before .before .read162 .result) (c .before .before .before .before .before .before .name-at .result .now) (c .before .before .before .before .name-at2 .result .now) (c .before .before .before .before .before .before .before .read16 .ensures .0) (c .before .before .before .before .before .read162 .ensures .0) (c .before .before .before .before .before .before .name-at .ensures) (c .before .before .before .before .name-at2 .ensures) in
-    (l .loop .inv .1 .good, putting-room (a .kind) (tables (a .refs .now) (a .subs .now) (a .trans .now) (a .pool .now) (a .sizes)) (shown (a .other .now)) (s .pre .0 .0) (l .loop .i) (tables (l .loop .refs) (l .loop .subs) (l .loop .trans) (l .loop .pool) (l .loop .done)) (l .loop .inv .1) _ _ (s .pre .1) (rw (pairs-counted (a .other .now) (s .pre .0 .1) (a .kind)) (inside l (c .before .before .before .before .before .before .before .before .loop-test .taken))) (n .0) (n .1))
+    (l .loop .inv .1 .kept, putting-room (a .kind) (tables (a .refs .now) (a .subs .now) (a .trans .now) (a .pool .now) (a .sizes)) (shown (a .other .now)) (s .pre .0 .0) (l .loop .i) (tables (l .loop .refs) (l .loop .subs) (l .loop .trans) (l .loop .pool) (l .loop .done)) (l .loop .inv .1) _ _ (s .pre .1) (rw (pairs-counted (a .other .now) (s .pre .0 .1) (a .kind)) (inside l (c .before .before .before .before .before .before .before .before .loop-test .taken))) (n .0) (n .1))
 
 add-i : tie.Need-add-i Inv-loop μ-loop
 add-i c = search needs

@@ -1,5 +1,6 @@
 -- By the tests, in their order.
 use mathlib.Core.Path.{sym, ap, _∙_}
+use mathlib.Core.Bool.{false≢true}
 use Rattle.model.specs.Outcome.{Outcome}
 use Rattle.edit.proofs.Adding.{add-refused, add-no-from, add-no-to, add-kept, add-long-from, add-long-to, add-decodes}
 use borrow.Author.Needs.{needs}
@@ -60,21 +61,29 @@ returns-5 c =
     let e = add-long-to (a .kind) (a .from .now) (a .to .now) (a .buffer .now) (sym (c .before .before .before .before .before .fault .ensures) ∙ c .before .before .before .before .if1 .left) (c .before .before .before .if2 .left) (c .before .before .if3 .left) (c .if5 .taken) in
     (sym (ap (λ (o : Outcome). o .number) e), sym (ap (λ (o : Outcome). o .buffer) e))
 
-add-short-requires : tie.Need-add-short-requires
-add-short-requires c κs =
-    let s = c .before .before .before .before .before .before .before .before .before .before .before in
+slice-aggregate-change : tie.Need-slice-aggregate-change
+slice-aggregate-change c = search needs
+
+change-requires : tie.Need-change-requires
+change-requires c κs =
+    let s = c .before .before .before .before .before .before .before .before .before .before .before .before in
     let a = s .args in
-    (add-decodes (a .kind) (a .from .now) (a .to .now) (a .buffer .now) (sym (c .before .before .before .before .before .before .fault .ensures) ∙ c .before .before .before .before .before .if1 .left), c .before .before .if4 .left, c .before .if5 .left)
+    record {
+      own = add-decodes (a .kind) (a .from .now) (a .to .now) (a .buffer .now) (sym (c .before .before .before .before .before .before .before .fault .ensures) ∙ c .before .before .before .before .before .before .if1 .left);
+      other = λ e. absurd (false≢true e);
+      from-short = c .before .before .before .if4 .left;
+      to-short = c .before .before .if5 .left;
+    }
 
 same-length-6 : tie.Need-same-length-6
 same-length-6 c = search needs
 
 returns-6 : tie.Need-returns-6
 returns-6 c =
-    let s = c .before .before .before .before .before .before .before .before .before .before .before .before .before .before in
+    let s = c .before .before .before .before .before .before .before .before .before .before .before .before .before .before .before in
     let a = s .args in
-    let e = add-kept (a .kind) (a .from .now) (a .to .now) (a .buffer .now) (sym (c .before .before .before .before .before .before .before .before .before .fault .ensures) ∙ c .before .before .before .before .before .before .before .before .if1 .left) (c .before .before .before .before .before .before .before .if2 .left) (c .before .before .before .before .before .before .if3 .left) in
-    let r = c .before .before .add-short .ensures in
+    let e = add-kept (a .kind) (a .from .now) (a .to .now) (a .buffer .now) (sym (c .before .before .before .before .before .before .before .before .before .before .fault .ensures) ∙ c .before .before .before .before .before .before .before .before .before .if1 .left) (c .before .before .before .before .before .before .before .before .if2 .left) (c .before .before .before .before .before .before .before .if3 .left) in
+    let r = c .before .before .change .ensures in
     (r .0 ∙ sym (ap (λ (o : Outcome). o .number) e), r .1 ∙ sym (ap (λ (o : Outcome). o .buffer) e))
 
 pub add-spec : {M : Type 1} → statement M
@@ -92,6 +101,7 @@ add-spec =
     returns-4
     same-length-5
     returns-5
-    add-short-requires
+    slice-aggregate-change
+    change-requires
     same-length-6
     returns-6)

@@ -10,13 +10,13 @@ count-fault-requires : tie.Need-count-fault-requires
 count-fault-requires c κs = search needs
 
 returns : tie.Need-returns
-returns c = 
+returns c =
     let s = c .before .before .before .before .before in
     let a = s .args in
     c .count-fault .ensures ∙ sym (fault-without (a .refs .now) (a .pool .now) (a .sizes) (s .pre) (a .named) (a .own .now) (not-true (a .named) (c .before .if1 .taken)))
 
 returns-2 : tie.Need-returns-2
-returns-2 c = 
+returns-2 c =
     let s = c .before .before .before .before .before in
     let a = s .args in
     sym (fault-long (a .refs .now) (a .pool .now) (a .sizes) (s .pre) (a .named) (a .own .now) (not-false (a .named) (c .before .if1 .left)) (c .if2 .taken))
@@ -28,7 +28,7 @@ count-fault-requires-2 : tie.Need-count-fault-requires-2
 count-fault-requires-2 c κs = search needs
 
 returns-3 : tie.Need-returns-3
-returns-3 c = 
+returns-3 c =
     let s = c .before .before .before .before .before .before .before .before .before in
     let a = s .args in
     c .count-fault2 .ensures ∙ sym (fault-room (a .refs .now) (a .pool .now) (a .sizes) (s .pre) (a .named) (a .own .now) (not-false (a .named) (c .before .before .before .before .before .if1 .left)) (c .before .before .before .before .if2 .left) (c .before .before .if3 .taken) (leb-true _ _ (c .before .if4 .taken)))
@@ -43,7 +43,7 @@ count-fault-requires-3 : tie.Need-count-fault-requires-3
 count-fault-requires-3 c κs = search needs
 
 returns-4 : tie.Need-returns-4
-returns-4 c = 
+returns-4 c =
     let s = c .before .before .before .before .before .before .before .before .before .before .before in
     let a = s .args in
     let p = c .before .before .before .name-place in
@@ -57,7 +57,7 @@ count-fault-requires-4 : tie.Need-count-fault-requires-4
 count-fault-requires-4 c κs = search needs
 
 returns-5 : tie.Need-returns-5
-returns-5 c = 
+returns-5 c =
     let s = c .before .before .before .before .before .before .before .before .before .before .before in
     let a = s .args in
     let p = c .before .before .before .name-place in

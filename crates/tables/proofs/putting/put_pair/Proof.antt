@@ -36,12 +36,12 @@ module _ (w : tie.After-put-name2) where
 small : (c : tie.After-moved-place) → let w = c .before .before .before .before .before .before .before .before .before in (c .moved-place .result < both w .sizes .names) × (w .put-name2 .result .place < both w .sizes .names) × (both w .sizes .names < 65536)
 small c =
     let w = c .before .before .before .before .before .before .before .before .before in
-    places-small (first (start w)) (mid w) (both w) _ _ _ _ (c .moved-place .result) (start w .pre .0) (one w) (two w) (c .moved-place .ensures)
+    places-small (first (start w)) (mid w) (both w) _ _ _ _ (c .moved-place .result) (one w) (two w) (c .moved-place .ensures)
 
 put-name-requires : tie.Need-put-name-requires
 put-name-requires c κs =
     let s = c .before .before .before .before .before .before .before .before .before .before in
-    (s .pre .0 .kept, first-room (first s) _ _ (s .pre .1))
+    (s .pre .0, first-room (first s) _ _ (s .pre .1))
 
 put-name-requires-2 : tie.Need-put-name-requires-2
 put-name-requires-2 c κs =
@@ -52,7 +52,7 @@ put-name-requires-2 c κs =
 moved-place-requires : tie.Need-moved-place-requires
 moved-place-requires c κs =
     let w = c .before .before .before .before .before .before .before .before in
-    first-small (first (start w)) (mid w) (both w) _ _ _ _ _ (start w .pre .0) (one w) (two w) refl
+    first-small (first (start w)) (mid w) (both w) _ _ _ _ _ (one w) (two w) refl
 
 mul-pair : tie.Need-mul-pair
 mul-pair c = let h = small c in omega arith
@@ -102,7 +102,7 @@ returns c =
     let m = c .before .before .before .before .before .before .before in
     let w = m .before .before .before .before .before .before .before .before .before in
     let r = c .before .before .put-number in
-    subgraph-put (first (start w)) (mid w) (both w) _ _ _ _ (m .moved-place .result) (start w .pre .0) (one w) (two w) (m .moved-place .ensures) (start w .args .kind) (c .before .before .before .before .enum-told .given .1) (r .result) (r .last .0) (r .ensures .1)
+    subgraph-put (first (start w)) (mid w) (both w) _ _ _ _ (m .moved-place .result) (one w) (two w) (m .moved-place .ensures) (start w .args .kind) (c .before .before .before .before .enum-told .given .1) (r .result) (r .last .0) (r .ensures .1)
     (omega (arith, r .ensures .0, r .kept .0, start w .pre .1 .subgraph, w .put-name2 .ensures .subgraph, name w .put-name .ensures .subgraph, w .put-name2 .kept .1 .0, name w .put-name .kept .1 .0))
 
 same-length-5 : tie.Need-same-length-5
@@ -122,7 +122,7 @@ returns-2 c =
     let m = c .before .before .before .before .before .before .before in
     let w = m .before .before .before .before .before .before .before .before .before in
     let r = c .before .before .put-number2 in
-    translation-put (first (start w)) (mid w) (both w) _ _ _ _ (m .moved-place .result) (start w .pre .0) (one w) (two w) (m .moved-place .ensures) (start w .args .kind) (c .before .before .before .before .enum-told2 .given .1) (r .result) (r .last .0) (r .ensures .1)
+    translation-put (first (start w)) (mid w) (both w) _ _ _ _ (m .moved-place .result) (one w) (two w) (m .moved-place .ensures) (start w .args .kind) (c .before .before .before .before .enum-told2 .given .1) (r .result) (r .last .0) (r .ensures .1)
     (omega (arith, r .ensures .0, r .kept .0, start w .pre .1 .translation, w .put-name2 .ensures .translation, name w .put-name .ensures .translation, w .put-name2 .kept .1 .1 .0, name w .put-name .kept .1 .1 .0))
 
 pub put-pair-spec : {M : Type 1} → statement M
