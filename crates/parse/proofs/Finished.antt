@@ -1,5 +1,6 @@
 -- A reading's start and its end: the tables with nothing taken, the empty record, and what is answered.
 use mathlib.Core.Path.{_≡_, refl, sym, ap, _∙_}
+use mathlib.Core.Option.{none}
 use mathlib.Core.List.{List, append-nil, List·Memᴰ·not-nil}
 use Prim.Native.Nat.{ℕ, _+_, _-_}
 use native.Mathlib.Omega.{arith}
@@ -12,7 +13,8 @@ use Rattle.model.specs.Statements.{Ascending}
 use Rattle.model.specs.Reading.{fromHeaderLines, Refusal, Reading}
 use Rattle.model.specs.Outcome.{outcomeOf, readingInto, refusalOf, refusalInto}
 use Rattle.record.specs.Test.{Under}
-use Rattle.tables.specs.Tables.{tables, Good}
+use Rattle.tables.specs.Tables.{tables}
+use Rattle.tables.specs.Judging.{Good}
 use Rattle.tables.specs.declared.putting.Sizes.{Sizes}
 use Rattle.tables.specs.Tables.{Tables}
 use Rattle.parse.specs.declared.taking.State.{State}
@@ -28,7 +30,7 @@ use Rattle.parse.specs.State.{firstStop, readingOf, Lengths, nothingTake
 -- ------------------------------------------------------------------ the start
 
 module _ (refs subs trans : List ℕ) (pool own : Bytes) (f : Lengths refs subs trans pool own) where
-  nothing-good : Good (tables refs subs trans pool (nothingTaken .sizes))
+  nothing-good : Good none (tables refs subs trans pool (nothingTaken .sizes))
   unfolding names insertAll Ascending Under
   nothing-good = record {
     kept = record {

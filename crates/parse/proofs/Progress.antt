@@ -22,12 +22,12 @@ use Rattle.text.proofs.Ascending.{insert-members, insert-ascending}
 use Rattle.text.proofs.Put.{length-put}
 use Rattle.record.proofs.Sizes.{judge-sizes}
 use Rattle.tables.specs.declared.putting.Sizes.{Sizes}
-use Rattle.tables.specs.Tables.{Tables, tables, namesIn, tableNames, graphIn, Good, PairRoom, PairPut}
+use Rattle.tables.specs.Tables.{Tables, tables, namesIn, tableNames, graphIn, PairRoom, PairPut}
 use Rattle.tables.proofs.Search.{length-names}
-use Rattle.tables.specs.Judging.{owned, namesAnd, NamesKept}
+use Rattle.tables.specs.Judging.{owned, namesAnd, NamesKept, Good}
 use Rattle.tables.proofs.Pairs.{names-withPair}
 use Rattle.tables.proofs.Total.{total, total-count, total-bodies, total-part}
-use Rattle.tables.proofs.Judge.{names-owned, any-insert, length-shown, judge-tables}
+use Rattle.tables.proofs.Judge.{good-put, names-owned, any-insert, length-shown, judge-tables}
 use Rattle.text.proofs.Tests.{either-true}
 use Rattle.fields.specs.declared.field.Content.{Content}
 use Rattle.fields.specs.declared.field.Content.the-variants.{Fault, Nothing, Name, Relation}
@@ -40,7 +40,7 @@ use Rattle.parse.specs.State.{ownOf, graphNow, judgeNames, judgedAs, nam
 
 -- ------------------------------------------------------------------ what is judged
 
-module _ (t : Tables) (good : Good t) where
+module _ (t : Tables) (good : Good none t) where
   -- the names of the tables with an own name are those of the graph name
   pub now-names : (o : Option Bytes) → names (owned o (graphIn t)) ≡ namesAnd o (tableNames t)
   now-names o = names-owned o (graphIn t) ∙ ap (namesAnd o) (good .used)
@@ -190,7 +190,7 @@ module _ (refs subs trans : List ℕ) (pool own : Bytes) (sizes : Sizes) (n : �
     module _ (refs′ subs′ trans′ : List ℕ) (pool′ : Bytes) (sizes′ : Sizes)
         (p : PairPut k (tables refs subs trans pool sizes) from to (tables refs′ subs′ trans′ pool′ sizes′)) where
       pub pair-kept : NamesKept refs′ pool′ sizes′
-      pair-kept = names-kept (tables refs′ subs′ trans′ pool′ sizes′) (p .good)
+      pair-kept = names-kept (tables refs′ subs′ trans′ pool′ sizes′) (good-put none k (tables refs subs trans pool sizes) (tables refs′ subs′ trans′ pool′ sizes′) from to (h .held .good) p)
 
       pub pair-progress : length refs′ ≡ length refs → length subs′ ≡ length subs → length trans′ ≡ length trans → length pool′ ≡ length pool
           → (r : FieldTaken) → r ≡ judgedAs (judgeNames (ownOf own n) (namesIn pool′ (sizes′ .names) refs′) sizes′) (record { sizes = sizes′; own = n })
@@ -198,7 +198,7 @@ module _ (refs subs trans : List ℕ) (pool own : Bytes) (sizes : Sizes) (n : �
       pair-progress a b c d r e =
           state-taken refs′ subs′ trans′ pool′ own (record { sizes = sizes′; own = n })
           (record {
-            good = p .good;
+            good = good-put none k (tables refs subs trans pool sizes) (tables refs′ subs′ trans′ pool′ sizes′) from to (h .held .good) p;
             short = h .held .short;
             lengths = record {
               refs = a ∙ h .held .lengths .refs;

@@ -60,7 +60,7 @@ module _ (refs subs trans : List ℕ) (pool own : Bytes) (sizes : Sizes) (n : �
       u = tables refs′ subs′ trans′ pool′ sizes′
 
       pub graph-own : meaning (readOut u (p + 1)) ≡ graphNow t own n
-      graph-own = meaning-own t u x p (h .held .good) k ∙ sym graph-named
+      graph-own = meaning-own t u x p k ∙ sym graph-named
 
       all-names : names (graphNow t own n) ≡ tableNames u
       all-names = ap names graph-named ∙ now-names t (h .held .good) (some x) ∙ sym (k .names)
@@ -70,7 +70,7 @@ module _ (refs subs trans : List ℕ) (pool own : Bytes) (sizes : Sizes) (n : �
           let w = in-use refs subs trans pool own sizes n h in
           let s = judge-sizes (graphNow t own n) (h .sizes) in
           let c = length-names pool′ (sizes′ .names) refs′ (k .kept .count) in
-          let r = ready-own t u x p (h .held .good) k in
+          let r = ready-own t u x p k (h .held .good) in
           record {
             kept = r .kept;
             own-within = r .own-within;

@@ -10,8 +10,8 @@ use Rattle.model.specs.Bytes.{Bytes}
 use Rattle.model.specs.Record.{GraphName, judge}
 use Rattle.model.specs.Reading.{Taken, took, wrong, Reading, done, refused}
 use Rattle.tables.specs.declared.putting.Sizes.{Sizes}
-use Rattle.tables.specs.Tables.{Tables, graphIn, Good}
-use Rattle.tables.specs.Judging.{owned, namesAnd, sizeFault}
+use Rattle.tables.specs.Tables.{Tables, graphIn}
+use Rattle.tables.specs.Judging.{owned, namesAnd, sizeFault, Good}
 use Rattle.fields.specs.declared.field.Source.{Source}
 use Rattle.fields.specs.declared.field.Source.the-variants.{Header, Tag}
 use Rattle.parse.specs.declared.reading.Ended.{Ended}
@@ -29,12 +29,12 @@ ownOf own (suc k) = some (take k own)
 abbrev pub graphNow : Tables → Bytes → ℕ → GraphName
 graphNow t own n = owned (ownOf own n) (graphIn t)
 
--- the lengths of the tables and of the buffer for the own name
+-- the lengths of the tables and of the buffer for the own name: a full record, and a field more
 pub record Lengths (rs ss ts : List ℕ) (bytes name : Bytes) : Type 0 where
-  pub refs : length rs ≡ 1028
-  pub subs : length ss ≡ 2050
-  pub trans : length ts ≡ 2050
-  pub pool : length bytes ≡ 45808
+  pub refs : length rs ≡ 516
+  pub subs : length ss ≡ 1026
+  pub trans : length ts ≡ 1026
+  pub pool : length bytes ≡ 23040
   pub own : length name ≡ 256
 
 -- nothing taken yet
@@ -55,7 +55,7 @@ nameTaken ns sizes x = cond (ltb 256 (length x)) (Wrong 11) (judgedAs (judgeName
 
 -- the tables are good, and the own name is within its buffer
 pub record Held (t : Tables) (own : Bytes) (n : ℕ) : Type 0 where
-  pub good : Good t
+  pub good : Good none t
   pub short : n ≤ 257
   pub lengths : Lengths (t .refs) (t .subs) (t .trans) (t .pool) own
 

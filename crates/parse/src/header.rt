@@ -3,7 +3,10 @@ use crate::finish::Answer;
 use crate::finish::finish;
 use crate::reading::read_text;
 use crate::taking::begin;
+use crate::taking::name_table;
 use crate::taking::own_buffer;
+use crate::taking::pair_table;
+use crate::taking::pool;
 use fields::Source;
 ghost use mathlib.Core.Path.{_≡_};
 ghost use Rattle.model.specs.Reading.{fromHeaderLines};
@@ -22,10 +25,10 @@ pub fn from_header_lines(t: &[u8], buffer: &mut [u8]) -> Answer
             size: 0,
         };
     }
-    let mut refs = tables::name_table();
-    let mut subs = tables::pair_table();
-    let mut trans = tables::pair_table();
-    let mut pool = tables::pool();
+    let mut refs = name_table();
+    let mut subs = pair_table();
+    let mut trans = pair_table();
+    let mut pool = pool();
     let mut own = own_buffer();
     let ended = read_text(
         Source::Header,

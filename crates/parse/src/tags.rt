@@ -6,7 +6,10 @@ use crate::reading::read_text;
 use crate::taking::FieldTaken;
 use crate::taking::State;
 use crate::taking::begin;
+use crate::taking::name_table;
 use crate::taking::own_buffer;
+use crate::taking::pair_table;
+use crate::taking::pool;
 use crate::taking::take_field;
 use fields::Content;
 use fields::Source;
@@ -152,10 +155,10 @@ pub fn from_tags(
             size: 0,
         };
     }
-    let mut refs = tables::name_table();
-    let mut subs = tables::pair_table();
-    let mut trans = tables::pair_table();
-    let mut pool = tables::pool();
+    let mut refs = name_table();
+    let mut subs = pair_table();
+    let mut trans = pair_table();
+    let mut pool = pool();
     let mut own = own_buffer();
     let ended = read_tags(
         has_name,

@@ -26,6 +26,25 @@ pub(crate) enum FieldTaken {
     Wrong(usize),
 }
 
+// Tables with room for the names and pairs of a full record and of a field more, and a pool for their bodies.
+pub(crate) fn name_table() -> [u32; 516]
+    ensures { λ r. ⌜ length r ≡ 516 ⌝ }
+{
+    [0; 516]
+}
+
+pub(crate) fn pair_table() -> [u32; 1026]
+    ensures { λ r. ⌜ length r ≡ 1026 ⌝ }
+{
+    [0; 1026]
+}
+
+pub(crate) fn pool() -> [u8; 23040]
+    ensures { λ r. ⌜ length r ≡ 23040 ⌝ }
+{
+    [0; 23040]
+}
+
 // A buffer for an own name.
 pub(crate) fn own_buffer() -> [u8; 256]
     ensures { λ r. ⌜ length r ≡ 256 ⌝ }

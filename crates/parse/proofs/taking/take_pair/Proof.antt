@@ -26,7 +26,7 @@ put-pair-requires c κs =
     let e = c .before .before .before .before in
     let s = start e in
     let a = s .args in (
-      s .pre .held .good,
+      s .pre .held .good .kept,
       pair-room (a .refs .now) (a .subs .now) (a .trans .now) (a .pool .now) (a .own .now) (a .state .sizes) (a .state .own) (s .pre)
           (a .from .now) (a .to .now) (e .before .if1 .left) (e .if2 .left),
     )
