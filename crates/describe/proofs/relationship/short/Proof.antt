@@ -1,0 +1,15 @@
+-- Both tests.
+use native.Mathlib.Omega.{arith}
+use Rattle.describe.proofs.relationship.short.Statement.{statement}
+use Rattle.describe.proofs.relationship.short.Tie as tie
+use Rattle.describe.proofs.relationship.short.Reads as reads
+use Rattle.describe.proofs.relationship.short.Lts as lts
+
+returns : tie.Need-returns
+returns c = ?
+
+returns-2 : tie.Need-returns-2
+returns-2 c = ?
+
+pub short-spec : {M : Type 1} → statement M
+short-spec = tie.close (tie.spec returns returns-2)
