@@ -32,9 +32,12 @@ module _ (out : Bytes) (at : ℕ) where
       let l = length-append (s ++ t ++ u ++ v) w in
       wrote-two (s ++ t ++ u ++ v) w p‴ o‴ r after fits (wrote-four s t u v p o p′ o′ p″ o″ p‴ o‴ (omega arith) a b c d) e
 
+pub two-lengths : (whole t u : Bytes) → whole ≡ t ++ u → length whole ≡ length t + length u
+two-lengths whole t u e = ap length e ∙ length-append t u
+
 -- with t written, u is still to come behind it
 pub write-turn : (out : Bytes) (q : ℕ) (whole t u : Bytes) (r : ℕ) (o : Bytes) → whole ≡ t ++ u → q + length whole ≤ length out → Wrote out q t r o
     → (r + length u ≡ q + length whole) × (put o r u ≡ put out q whole)
 write-turn out q whole t u r o e fits w =
-    let size = ap length e ∙ length-append t u in
+    let size = two-lengths whole t u e in
     (omega (arith, w .0), rw (e, w .0, w .1) (put-append out q t u (omega arith)))

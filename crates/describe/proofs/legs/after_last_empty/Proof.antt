@@ -1,3 +1,15 @@
+-- What is listed of the names so far and those still to come is what is listed of all.
+use mathlib.Core.Path.{_≡_, refl, sym, ap, _∙_}
+use mathlib.Core.List.{List}
+use Prim.Native.Nat.{ℕ, _+_, _-_, _*_, _≤_}
+use lib.ListN.{length, take, drop}
+use borrow.Author.Tests.{eqb-true, eqb-false}
+use Rattle.model.specs.Bytes.{isEmpty}
+use Rattle.model.specs.Describe.{Leg, afterLastEmpty}
+use Rattle.describe.specs.Legs.{legsAt, LegsIn}
+use Rattle.describe.proofs.Runs.{keeping, keeping-start, turn-empty, turn-full, empty-name, full-name, legs-rest, legs-end}
+use borrow.Author.Needs.{needs}
+use native.Mathlib.Omega.{arith}
 use Rattle.describe.proofs.legs.after_last_empty.Statement.{statement}
 use Rattle.describe.proofs.legs.after_last_empty.Tie as tie
 use Rattle.describe.proofs.legs.after_last_empty.Reads as reads
@@ -6,54 +18,63 @@ use Rattle.text.proofs.part.Reads as part-reads
 use Rattle.text.proofs.read16.Reads as read16-reads
 
 abbrev Inv-loop : tie.InvT-loop
-Inv-loop path entry body count first₀ start₀ listed₀ e₀ at₀ left₀ first start listed e at left = ?
+Inv-loop path entry body count first₀ start₀ listed₀ e₀ at₀ left₀ first start listed e at left = 
+    LegsIn path e at left
+    × LegsIn path first start listed
+    × (afterLastEmpty (legsAt path entry body count) ≡ keeping (legsAt path e at left) (legsAt path first start listed))
 
 abbrev μ-loop : tie.MeasureT-loop
-μ-loop path entry body count first₀ start₀ listed₀ e₀ at₀ left₀ first start listed e at left = ?
+μ-loop path entry body count first₀ start₀ listed₀ e₀ at₀ left₀ first start listed e at left = left
 
--- src/legs.rt:27:5
 loop-holds : tie.Need-loop-holds Inv-loop μ-loop
-loop-holds c = ?
+loop-holds c = (c .before .pre, c .before .pre, keeping-start _)
 
--- src/legs.rt:28:13
 read16-requires : tie.Need-read16-requires Inv-loop μ-loop
-read16-requires c κs = ?
+read16-requires c κs = let l = c .before .loop in omega (arith, l .inv .0 .entries .size, l .inv .0 .entries .end)
 
--- src/legs.rt:29:21
 part-requires : tie.Need-part-requires Inv-loop μ-loop
-part-requires c κs = ?
+part-requires c κs = search needs
 
--- src/legs.rt:30:9
 add-e : tie.Need-add-e Inv-loop μ-loop
-add-e c = ?
+add-e c = let l = c .before .before .before .loop in omega (arith, l .inv .0 .entries .end)
 
--- src/legs.rt:31:9
 add-at : tie.Need-add-at Inv-loop μ-loop
-add-at c = ?
+add-at c = let l = c .before .before .before .loop in omega (arith, l .inv .0 .near, c .before .read16 .ensures .1)
 
--- src/legs.rt:32:9
 sub-left : tie.Need-sub-left Inv-loop μ-loop
-sub-left c = ?
+sub-left c = search needs
 
--- src/legs.rt:27:5
 loop-less : tie.Need-loop-less Inv-loop μ-loop
-loop-less c = ?
+loop-less c = search needs
 
--- src/legs.rt:27:5
 loop-again : tie.Need-loop-again Inv-loop μ-loop
-loop-again c = ?
+loop-again c = 
+    let n = c .before in
+    let k = n .before .read16 in
+    let l = n .before .before .before .loop in
+    let p = n .before .before .before .before .before .args .path .now in
+    let rest = legs-rest p (l .e) (l .at) (l .left) (search needs) (k .result) (k .ensures .1) (l .inv .0) in
+    let name = ap isEmpty (sym (n .part .ensures ∙ ap (λ (x : ℕ). take x (drop (l .at) p)) (k .ensures .0))) ∙ empty-name (n .part .result .now) (eqb-true _ _ (c .if1 .taken)) in
+    (rest, rest, rw (k .ensures .0) (l .inv .2 ∙ turn-empty p (l .e) (l .at) (l .left) (search needs) _ name))
 
--- src/legs.rt:27:5
 loop-less-2 : tie.Need-loop-less-2 Inv-loop μ-loop
-loop-less-2 c = ?
+loop-less-2 c = search needs
 
--- src/legs.rt:27:5
 loop-again-2 : tie.Need-loop-again-2 Inv-loop μ-loop
-loop-again-2 c = ?
+loop-again-2 c = 
+    let n = c .before in
+    let k = n .before .read16 in
+    let l = n .before .before .before .loop in
+    let p = n .before .before .before .before .before .args .path .now in
+    let rest = legs-rest p (l .e) (l .at) (l .left) (search needs) (k .result) (k .ensures .1) (l .inv .0) in
+    let name = ap isEmpty (sym (n .part .ensures ∙ ap (λ (x : ℕ). take x (drop (l .at) p)) (k .ensures .0))) ∙ full-name (n .part .result .now) (eqb-false _ _ (c .if1 .left)) in
+    (rest, l .inv .1, rw (k .ensures .0) (l .inv .2 ∙ turn-full p (l .e) (l .at) (l .left) (search needs) _ name))
 
--- src/legs.rt:17:1
 returns : tie.Need-returns Inv-loop μ-loop
-returns c = ?
+returns c = 
+    let l = c .before .loop in
+    let p = c .before .before .before .args .path .now in
+    record { stands = l .inv .1; same = sym (l .inv .2 ∙ ap (λ (ls : List Leg). keeping ls (legsAt p (l .first) (l .start) (l .listed))) (legs-end p (l .e) (l .at) (l .left) (search needs))) }
 
 pub after-last-empty-spec : {M : Type 1} → statement M
 after-last-empty-spec =

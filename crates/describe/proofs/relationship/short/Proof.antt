@@ -1,4 +1,6 @@
 -- Both tests.
+use lib.ListN.{length}
+use borrow.Author.Tests.{le-leb, lt-leb}
 use native.Mathlib.Omega.{arith}
 use Rattle.describe.proofs.relationship.short.Statement.{statement}
 use Rattle.describe.proofs.relationship.short.Tie as tie
@@ -6,10 +8,10 @@ use Rattle.describe.proofs.relationship.short.Reads as reads
 use Rattle.describe.proofs.relationship.short.Lts as lts
 
 returns : tie.Need-returns
-returns c = ?
+returns c = rw (le-leb (length (c .before .args .from .now)) 4096 (c .if1 .taken))
 
 returns-2 : tie.Need-returns-2
-returns-2 c = ?
+returns-2 c = rw (lt-leb (length (c .before .args .from .now)) 4096 (c .if1 .left))
 
 pub short-spec : {M : Type 1} → statement M
 short-spec = tie.close (tie.spec returns returns-2)

@@ -1,3 +1,14 @@
+-- The lines so far and those that are left make the whole; no line has more than 64 bytes.
+use mathlib.Core.Path.{_≡_, ap, _∙_}
+use Prim.Native.Nat.{ℕ, _+_, _*_, _≤_}
+use lib.ListN.{length, length-append}
+use Rattle.model.specs.Describe.{stepLines}
+use Rattle.describe.specs.Lines.{stepLine}
+use Rattle.describe.specs.Legs.{kindOf, legsAt, EntriesIn}
+use Rattle.describe.proofs.Runs.{steps-turn, steps-end, entries-rest}
+use Rattle.describe.proofs.Sequence.{two-lengths}
+use borrow.Author.Needs.{needs}
+use native.Mathlib.Omega.{arith}
 use Rattle.describe.proofs.steps.steps_length.Statement.{statement}
 use Rattle.describe.proofs.steps.steps_length.Tie as tie
 use Rattle.describe.proofs.steps.steps_length.Reads as reads
@@ -6,54 +17,55 @@ use Rattle.describe.proofs.lines.step_length.Reads as step-length-reads
 use Rattle.text.proofs.read16.Reads as read16-reads
 
 abbrev Inv-loop : tie.InvT-loop
-Inv-loop path entry count size₀ i₀ e₀ left₀ size i e left = ?
+Inv-loop path entry count size₀ i₀ e₀ left₀ size i e left = 
+    EntriesIn path e left
+    × (size + length (stepLines i (legsAt path e 0 left)) ≡ length (stepLines 1 (legsAt path entry 0 count)))
+    × (size + 64 * left ≤ 64 * count)
+    × (i + left ≡ 1 + count)
 
 abbrev μ-loop : tie.MeasureT-loop
-μ-loop path entry count size₀ i₀ e₀ left₀ size i e left = ?
+μ-loop path entry count size₀ i₀ e₀ left₀ size i e left = left
 
--- src/steps.rt:21:5
 loop-holds : tie.Need-loop-holds Inv-loop μ-loop
-loop-holds c = ?
+loop-holds c = (c .before .pre, omega arith, omega arith, omega arith)
 
--- src/steps.rt:22:45
 add-read16 : tie.Need-add-read16 Inv-loop μ-loop
-add-read16 c = ?
+add-read16 c = let l = c .before .loop in omega (arith, l .inv .0 .end)
 
--- src/steps.rt:22:32
 read16-requires : tie.Need-read16-requires Inv-loop μ-loop
-read16-requires c κs = ?
+read16-requires c κs = let l = c .before .loop in omega (arith, l .inv .0 .size, l .inv .0 .end)
 
--- src/steps.rt:22:17
 step-length-requires : tie.Need-step-length-requires Inv-loop μ-loop
-step-length-requires c κs = ?
+step-length-requires c κs = omega (arith, c .before .before .before .before .pre .end)
 
--- src/steps.rt:22:9
 add-size : tie.Need-add-size Inv-loop μ-loop
-add-size c = ?
+add-size c = omega (arith, c .before .before .before .before .before .pre .end)
 
--- src/steps.rt:23:9
 add-i : tie.Need-add-i Inv-loop μ-loop
-add-i c = ?
+add-i c = omega (arith, c .before .before .before .before .before .pre .end)
 
--- src/steps.rt:24:9
 add-e : tie.Need-add-e Inv-loop μ-loop
-add-e c = ?
+add-e c = let l = c .before .before .before .loop in omega (arith, l .inv .0 .end)
 
--- src/steps.rt:25:9
 sub-left : tie.Need-sub-left Inv-loop μ-loop
-sub-left c = ?
+sub-left c = search needs
 
--- src/steps.rt:21:5
 loop-less : tie.Need-loop-less Inv-loop μ-loop
-loop-less c = ?
+loop-less c = search needs
 
--- src/steps.rt:21:5
 loop-again : tie.Need-loop-again Inv-loop μ-loop
-loop-again c = ?
+loop-again c = 
+    let l = c .before .before .before .loop in
+    let p = c .before .before .before .before .before .args .path .now in
+    let k = c .before .read16 in
+    let turn = two-lengths _ (stepLine (l .i) (kindOf (k .result))) _ (steps-turn p (l .e) (l .left) (search needs) (l .i) (k .result) (k .ensures .0)) in
+    (entries-rest p (l .e) 0 (l .left) (search needs) (l .inv .0), omega (arith, c .step-length .ensures .0), omega (arith, c .step-length .ensures .1), omega arith)
 
--- src/steps.rt:13:1
 returns : tie.Need-returns Inv-loop μ-loop
-returns c = ?
+returns c = 
+    let l = c .before .loop in
+    let p = c .before .before .before .args .path .now in
+    omega (arith, ap length (steps-end p (l .e) 0 (l .left) (search needs) (l .i)))
 
 pub steps-length-spec : {M : Type 1} → statement M
 steps-length-spec =
