@@ -1,3 +1,5 @@
 pub mod Sizes
 pub mod Sequence
 pub mod Runs
+pub mod Parts
+pub mod Bound

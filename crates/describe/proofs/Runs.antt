@@ -11,8 +11,13 @@ use Rattle.model.specs.Describe.{Leg, anyEmpty, afterLastEmpty, stepLines, grap
 use Rattle.describe.specs.Legs.{kindOf, legAt, legsAt, EntriesIn, LegsIn}
 use Rattle.describe.specs.Lines.{stepLine}
 
+pub length-legs : (p : Bytes) (e body n : ℕ) → length (legsAt p e body n) ≡ n
+unfolding legsAt
+length-legs p e body zero = refl
+length-legs p e body (suc n) = ap suc (length-legs p (e + 4) (body + number p e) n)
+
 -- where the body of a run's first step begins does not matter to the steps' lines
-steps-anywhere : (p : Bytes) (e i x y n : ℕ) → stepLines i (legsAt p e x n) ≡ stepLines i (legsAt p e y n)
+pub steps-anywhere : (p : Bytes) (e i x y n : ℕ) → stepLines i (legsAt p e x n) ≡ stepLines i (legsAt p e y n)
 unfolding legsAt stepLines
 steps-anywhere p e i x y zero = refl
 steps-anywhere p e i x y (suc n) =

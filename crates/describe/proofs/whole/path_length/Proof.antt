@@ -1,3 +1,6 @@
+-- The sum of its parts.
+use native.Mathlib.Omega.{arith}
+use Rattle.describe.proofs.Parts.{path-size}
 use borrow.Author.Needs.{needs}
 use Rattle.describe.proofs.whole.path_length.Statement.{statement}
 use Rattle.describe.proofs.whole.path_length.Tie as tie
@@ -7,45 +10,35 @@ use Rattle.describe.proofs.graphs.graphs_length.Reads as graphs-length-
 use Rattle.describe.proofs.lines.name_length.Reads as name-length-reads
 use Rattle.describe.proofs.steps.steps_length.Reads as steps-length-reads
 
--- src/whole.rt:34:17
 name-length-requires : tie.Need-name-length-requires
 name-length-requires c κs = search needs
 
--- src/whole.rt:34:52
 add-name-length : tie.Need-add-name-length
 add-name-length c = search needs
 
--- src/whole.rt:34:40
 name-length-requires-2 : tie.Need-name-length-requires-2
 name-length-requires-2 c κs = search needs
 
--- src/whole.rt:34:17
 add-names : tie.Need-add-names
 add-names c = search needs
 
--- src/whole.rt:35:9
 steps-length-requires : tie.Need-steps-length-requires
 steps-length-requires c κs = search needs
 
--- src/whole.rt:36:5
 add-result : tie.Need-add-result
 add-result c = search needs
 
--- src/whole.rt:36:5
 add-result-2 : tie.Need-add-result-2
 add-result-2 c = search needs
 
--- src/whole.rt:36:26
 graphs-length-requires : tie.Need-graphs-length-requires
 graphs-length-requires c κs = search needs
 
--- src/whole.rt:36:5
 add-result-3 : tie.Need-add-result-3
 add-result-3 c = search needs
 
--- src/whole.rt:22:1
 returns : tie.Need-returns
-returns c = ?
+returns c = let s = c .before .before .before .before .before .before .before .before in omega (arith, path-size (s .args .path .now) (s .args .entry) (s .args .body) (s .args .count) (s .args .last .now) (s .args .from .now) (s .args .to .now))
 
 pub path-length-spec : {M : Type 1} → statement M
 path-length-spec =

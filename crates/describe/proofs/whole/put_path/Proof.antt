@@ -1,3 +1,13 @@
+-- Five texts, one behind the other.
+use native.Mathlib.Omega.{arith}
+use Rattle.model.specs.Text.{text}
+use mathlib.Core.Path.{sym, ap}
+use Prim.Native.Nat.{_+_}
+use lib.ListN.{length}
+use Rattle.model.specs.Describe.{nameIsFor, stepLines, graphLines}
+use Rattle.describe.specs.Legs.{legsAt}
+use Rattle.describe.proofs.Parts.{path-parts, path-size}
+use Rattle.describe.proofs.Sequence.{wrote-five}
 use borrow.Author.Needs.{needs}
 use Rattle.describe.proofs.whole.put_path.Statement.{statement}
 use Rattle.describe.proofs.whole.put_path.Tie as tie
@@ -8,41 +18,46 @@ use Rattle.describe.proofs.lines.put_name.Reads as put-name-reads
 use Rattle.describe.proofs.steps.put_steps.Reads as put-steps-reads
 use Rattle.text.proofs.copy.Reads as copy-reads
 
--- src/whole.rt:53:9
 put-name-requires : tie.Need-put-name-requires
-put-name-requires c κs = ?
+put-name-requires c κs = let s = c .before .before .before .before .before .before in omega (arith, s .pre .1, path-size (s .args .path .now) (s .args .entry) (s .args .body) (s .args .count) (s .args .last .now) (s .args .from .now) (s .args .to .now))
 
--- src/whole.rt:54:9
 put-steps-requires : tie.Need-put-steps-requires
-put-steps-requires c κs = ?
+put-steps-requires c κs = let s = c .before .before .before .before .before .before .before .before .before .before in (s .pre .0 .entries, omega (arith, s .pre .1, path-size (s .args .path .now) (s .args .entry) (s .args .body) (s .args .count) (s .args .last .now) (s .args .from .now) (s .args .to .now)))
 
--- src/whole.rt:55:30
 add-put-name : tie.Need-add-put-name
 add-put-name c = search needs
 
--- src/whole.rt:55:9
 put-name-requires-2 : tie.Need-put-name-requires-2
-put-name-requires-2 c κs = ?
+put-name-requires-2 c κs = let s = c .before .before .before .before .before .before .before .before .before .before .before .before .before .before in omega (arith, s .pre .1, path-size (s .args .path .now) (s .args .entry) (s .args .body) (s .args .count) (s .args .last .now) (s .args .from .now) (s .args .to .now))
 
--- src/whole.rt:56:26
 slice-aggregate-copy : tie.Need-slice-aggregate-copy
 slice-aggregate-copy c = search needs
 
--- src/whole.rt:56:9
 copy-requires : tie.Need-copy-requires
-copy-requires c κs = ?
+copy-requires c κs = let s = c .before .before .before .before .before .before .before .before .before .before .before .before .before .before .before .before .before .before .before in omega (arith, s .pre .1, path-size (s .args .path .now) (s .args .entry) (s .args .body) (s .args .count) (s .args .last .now) (s .args .from .now) (s .args .to .now))
 
--- src/whole.rt:57:5
 put-graphs-requires : tie.Need-put-graphs-requires
-put-graphs-requires c κs = ?
+put-graphs-requires c κs = let s = c .before .before .before .before .before .before .before .before .before .before .before .before .before .before .before .before .before .before .before .before .before .before .before in (s .pre .0, omega (arith, s .pre .1, path-size (s .args .path .now) (s .args .entry) (s .args .body) (s .args .count) (s .args .last .now) (s .args .from .now) (s .args .to .now)))
 
--- src/whole.rt:40:1
 same-length : tie.Need-same-length
 same-length c = search needs
 
--- src/whole.rt:40:1
 returns : tie.Need-returns
-returns c = ?
+returns c = 
+    let z = c .before .before in
+    let y = z .before .before .before .before in
+    let x = y .before .before .before .before .before in
+    let w = x .before .before .before .before in
+    let v = w .before .before .before .before in
+    let s = v .before .before .before .before .before .before .before in
+    let a = s .args in
+    let parts = path-parts (s .args .path .now) (s .args .entry) (s .args .body) (s .args .count) (s .args .last .now) (s .args .from .now) (s .args .to .now) in
+    rw parts
+    (wrote-five (a .out .now) 0 (nameIsFor 1 (a .from .now)) (stepLines 1 (legsAt (a .path .now) (a .entry) 0 (a .count))) (nameIsFor (a .count + 1) (a .to .now)) (text "With graph names:\n")
+    (graphLines 1 (legsAt (a .path .now) (a .entry) (a .body) (a .count)) (a .last .now))
+    (v .put-name .result) (v .put-name .last .0) (w .put-steps .result) (w .put-steps .last .0) (x .put-name2 .result) (x .put-name2 .last .0)
+    (y .copy .result) (y .copy .last .0) (z .put-graphs .result) (z .put-graphs .last .0)
+    (omega (arith, s .pre .1, ap length parts)) (v .put-name .ensures) (w .put-steps .ensures) (x .put-name2 .ensures) (y .copy .ensures) (z .put-graphs .ensures))
 
 pub put-path-spec : {M : Type 1} → statement M
 put-path-spec =
