@@ -138,7 +138,7 @@ module _ (g h : GraphName) where
       (λ (w : List·Memᴰ y (nexts ss)). path-listed b ss (s .next) (p .1) y w)
       (List·Memᴰ·cases-cons m)
 
-  best-fits : (b c a e : Bytes) (ss : List Step) → decode b ≡ some g → decode c ≡ some h → g .name ≡ some a → Best (byEither g h) a ss e → length (pathBytes a ss) ≤ 49152
+  pub best-fits : (b c a e : Bytes) (ss : List Step) → decode b ≡ some g → decode c ≡ some h → g .name ≡ some a → Best (byEither g h) a ss e → length (pathBytes a ss) ≤ 49152
   best-fits b c a e ss d f n q =
       let s = judge-sizes g (decoded b g d .0 .sizes) in
       let t = judge-sizes h (decoded c h f .0 .sizes) in

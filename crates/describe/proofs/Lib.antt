@@ -3,3 +3,5 @@ pub mod Sequence
 pub mod Runs
 pub mod Parts
 pub mod Bound
+pub mod Reading
+pub mod Finding

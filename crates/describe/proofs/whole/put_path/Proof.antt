@@ -1,7 +1,9 @@
 -- Five texts, one behind the other.
 use native.Mathlib.Omega.{arith}
 use Rattle.model.specs.Text.{text}
-use mathlib.Core.Path.{sym, ap}
+use mathlib.Core.Path.{sym, ap, subst}
+use Rattle.model.specs.Bytes.{Bytes}
+use Rattle.export.specs.Texts.{Wrote}
 use Prim.Native.Nat.{_+_}
 use lib.ListN.{length}
 use Rattle.model.specs.Describe.{nameIsFor, stepLines, graphLines}
@@ -52,7 +54,7 @@ returns c =
     let s = v .before .before .before .before .before .before .before in
     let a = s .args in
     let parts = path-parts (s .args .path .now) (s .args .entry) (s .args .body) (s .args .count) (s .args .last .now) (s .args .from .now) (s .args .to .now) in
-    rw parts
+    subst (λ (t : Bytes). Wrote (a .out .now) 0 t (z .put-graphs .result) (z .put-graphs .last .0)) (sym parts)
     (wrote-five (a .out .now) 0 (nameIsFor 1 (a .from .now)) (stepLines 1 (legsAt (a .path .now) (a .entry) 0 (a .count))) (nameIsFor (a .count + 1) (a .to .now)) (text "With graph names:\n")
     (graphLines 1 (legsAt (a .path .now) (a .entry) (a .body) (a .count)) (a .last .now))
     (v .put-name .result) (v .put-name .last .0) (w .put-steps .result) (w .put-steps .last .0) (x .put-name2 .result) (x .put-name2 .last .0)
