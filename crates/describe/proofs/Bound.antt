@@ -1,28 +1,23 @@
 -- A best path comes to no name twice, and all its names are names of the two records; so its bytes are at most 49,138.
 use mathlib.Core.Path.{_≡_, refl, sym, ap, _∙_}
-use mathlib.Core.Logic.{_⊎_, inl, inr, ⊎-elim, _≢_}
-use mathlib.Core.Bool.{true}
+use mathlib.Core.Logic.{_⊎_, inl, inr, ⊎-elim}
 use mathlib.Core.List.{List, [], _∷_, _++_, map, List·Memᴰ, List·Memᴰ·head, List·Memᴰ·tail, List·Memᴰ·not-nil, List·Memᴰ·cases-cons, Memᴰ·cast, Memᴰ·append-left, Memᴰ·append-right}
-use mathlib.Core.Option.{Option, some, none}
+use mathlib.Core.Option.{some}
 use Prim.Native.Nat.{ℕ, suc, _+_, _*_, _≤_, _<_}
 use native.Mathlib.Omega.{arith}
-use lib.Dec.{leb}
 use lib.ListN.{length, length-append}
-use borrow.Author.Tests.{eq-eqb, le-leb}
 use Rattle.model.specs.declared.Kind.{Kind}
 use Rattle.model.specs.declared.Kind.the-variants.{Subgraph, Translation}
 use Rattle.model.specs.Bytes.{Bytes}
 use Rattle.model.specs.Record.{Pair, GraphName, names, bodies, pairNames}
 use Rattle.model.specs.Layout.{decode}
 use Rattle.model.specs.Questions.{pairsOf}
-use Rattle.model.specs.Path.{Step, fullPath, pathBodies, pathBytes}
-use Rattle.model.specs.Outcome.{Answer, refusal, notFound, found, answered, nameOr, sized, askFull}
-use Rattle.model.specs.Statements.{Relation, byEither, IsPath, Best, Right}
-use Rattle.record.proofs.Laws.{decoded, decode-held}
+use Rattle.model.specs.Path.{Step, pathBodies, pathBytes}
+use Rattle.model.specs.Statements.{Relation, byEither, IsPath, Best}
+use Rattle.record.proofs.Laws.{decoded}
 use Rattle.record.proofs.Names.{own-listed, pair-listed}
 use Rattle.record.proofs.Sizes.{judge-sizes}
 use Rattle.search.proofs.PathBytes.{length-path}
-use Rattle.search.proofs.Demand.{demand3}
 
 -- ------------------------------------------------------------------ lists of names by weight
 
@@ -99,9 +94,10 @@ module _ (R : Relation) (b : Bytes) where
   shortest-once : (ss : List Step) (a : Bytes) → IsPath R a ss b → ((ts : List Step) → IsPath R a ts b → length ss ≤ length ts) → Once (a ∷ nexts ss)
   unfolding IsPath
   shortest-once [] a p h = ((λ m. List·Memᴰ·not-nil m), tt)
-  shortest-once (s ∷ ss) a p h =
-      (λ m. let r = after (s ∷ ss) a a p m in absurd (omega (arith, r .2, h (r .0) (r .1))),
-        shortest-once ss (s .next) (p .1) (λ ts q. omega (arith, h (s ∷ ts) (p .0, q))))
+  shortest-once (s ∷ ss) a p h = (
+    λ m. let r = after (s ∷ ss) a a p m in absurd (omega (arith, r .2, h (r .0) (r .1))),
+    shortest-once ss (s .next) (p .1) (λ ts q. omega (arith, h (s ∷ ts) (p .0, q))),
+  )
 
   best-shortest : (a : Bytes) (ss : List Step) → Best R a ss b → (ts : List Step) → IsPath R a ts b → length ss ≤ length ts
   best-shortest a ss q ts p =

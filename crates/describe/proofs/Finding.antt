@@ -1,12 +1,12 @@
 -- What a search for a path tells, with room for every path: a fault of the buffers, or the path, or that there is none.
 use mathlib.Core.Path.{_≡_, refl, sym, ap, subst, _∙_}
 use mathlib.Core.Logic.{_⊎_, inl, inr, ⊎-elim, _≢_}
-use mathlib.Core.Bool.{Bool, true, false, _&&_}
-use mathlib.Core.List.{List, _++_}
+use mathlib.Core.Bool.{Bool, true, false}
+use mathlib.Core.List.{List}
 use mathlib.Core.Option.{Option, some, none}
 use Prim.Native.Nat.{ℕ, _≤_}
 use native.Mathlib.Omega.{arith}
-use lib.Dec.{eqb, leb}
+use lib.Dec.{eqb}
 use lib.ListN.{length, drop}
 use borrow.Author.Tests.{eq-eqb, le-leb}
 use Rattle.model.specs.Bytes.{Bytes}
@@ -14,12 +14,12 @@ use Rattle.model.specs.Record.{GraphName}
 use Rattle.model.specs.Layout.{decode}
 use Rattle.model.specs.Questions.{faultOfBoth}
 use Rattle.model.specs.Path.{Step, allRelations, between, fullPath, pathBytes}
-use Rattle.model.specs.Outcome.{Answer, refusal, notFound, found, answered, nameOr, sized, askFull, outputAfter}
-use Rattle.model.specs.Statements.{byEither, Best, Right}
+use Rattle.model.specs.Outcome.{Answer, refusal, found, answered, nameOr, sized, askFull, outputAfter}
+use Rattle.model.specs.Statements.{byEither, Right}
 use Rattle.record.proofs.Laws.{decode-held}
 use Rattle.search.specs.declared.Reply.{Reply}
 use Rattle.search.specs.declared.Reply.the-variants.{Refused, No, Yes}
-use Rattle.search.specs.Replies.{replyOf}
+use Rattle.search.specs.Replies.{replyOf, Replies}
 use Rattle.search.proofs.Demand.{demand3}
 use Rattle.describe.specs.Direction.{Apart, Leads}
 use Rattle.describe.proofs.Bound.{best-fits}
@@ -55,6 +55,7 @@ module _ (b c : Bytes) (g h : GraphName) (d : decode b ≡ some g) (e : decode c
     where
       other-than-refusal : (t : Bytes) → found t ≡ refusal 17 → ⊥
       other-than-refusal t z = let k : _≡_ {A = ℕ} 0 1 = cc in omega arith
+
       go : (m : Option Bytes) → Right (byEither g h) (some a) m (found (pathBytes a ss)) → length (pathBytes a ss) ≤ 49152
       go none r = let k : _≡_ {A = ℕ} 0 1 = cc in absurd (omega arith)
       go (some t) r = rw (r .2) (best-fits g h b c a t (r .0) d e n (r .1))
@@ -102,12 +103,16 @@ refusedBy (Refused n) = n
 refusedBy No = 0
 refusedBy Yes = 0
 
-module _ (b c : Bytes) (r : Reply) (reply : r ≡ replyOf (askFull b c 49152)) where
+module _ (b c out : Bytes) (r : Reply) (o : Bytes) (room : length out ≡ 49152) (told : Replies (askFull b c (length out)) out r o) where
+  reply : r ≡ replyOf (askFull b c 49152)
+  reply = told .0 ∙ ap (λ (n : ℕ). replyOf (askFull b c n)) room
+
   pub refused-fault : (n : ℕ) → r ≡ Refused n → (n ≡ faultOfBoth b c) × (n ≢ 0)
   refused-fault n q = ⊎-elim faulty found-or-not (searched b c)
     where
       faulty : Faulty b c → (n ≡ faultOfBoth b c) × (n ≢ 0)
       faulty t = let same : n ≡ faultOfBoth b c = ap refusedBy (sym q ∙ reply ∙ ap replyOf (t .0)) in (same, λ z. t .1 (sym same ∙ z))
+
       found-or-not : Searched b c → (n ≡ faultOfBoth b c) × (n ≢ 0)
       found-or-not s = go (fullPath (s .g) (s .h)) (ap case (sym q ∙ reply ∙ ap replyOf (s .whole)))
         where
@@ -125,11 +130,11 @@ module _ (b c : Bytes) (r : Reply) (reply : r ≡ replyOf (askFull b c 49152)) w
           go none f z = record { g = s .g; h = s .h; first = s .first; second = s .second; path = f }
           go (some ss) f z = absurd (omega arith)
 
-  pub path-found : (out o : Bytes) → r ≡ Yes → o ≡ outputAfter (askFull b c 49152) out → length o ≡ 49152 → Leads b c o
-  path-found out o q w size = ⊎-elim (λ (t : Faulty b c). let z : _≡_ {A = ℕ} 2 0 = ap case (sym q ∙ reply ∙ ap replyOf (t .0)) in absurd (omega arith)) there (searched b c)
+  pub path-found : r ≡ Yes → length o ≡ 49152 → Leads b c o
+  path-found q size = ⊎-elim (λ (t : Faulty b c). let z : _≡_ {A = ℕ} 2 0 = ap case (sym q ∙ reply ∙ ap replyOf (t .0)) in absurd (omega arith)) there (searched b c)
     where
       there : Searched b c → Leads b c o
-      there s = go (fullPath (s .g) (s .h)) refl (ap case (sym q ∙ reply ∙ ap replyOf (s .whole))) (w ∙ ap (λ (x : Answer). outputAfter x out) (s .whole))
+      there s = go (fullPath (s .g) (s .h)) refl (ap case (sym q ∙ reply ∙ ap replyOf (s .whole))) (told .1 ∙ ap (λ (n : ℕ). outputAfter (askFull b c n) out) room ∙ ap (λ (x : Answer). outputAfter x out) (s .whole))
         where
           go : (p : Option (List Step)) → fullPath (s .g) (s .h) ≡ p → 2 ≡ case (replyOf (answered (nameOr (s .g .name)) p))
               → o ≡ outputAfter (answered (nameOr (s .g .name)) p) out → Leads b c o

@@ -5,3 +5,4 @@ pub mod Parts
 pub mod Bound
 pub mod Reading
 pub mod Finding
+pub mod Telling

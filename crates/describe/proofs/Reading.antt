@@ -1,7 +1,7 @@
 -- What stands in the bytes of a path is the path: its first name, and its legs.
 use mathlib.Core.Path.{_≡_, refl, sym, ap, _∙_}
 use mathlib.Core.List.{List, [], _∷_, _++_, append-assoc}
-use Prim.Native.Nat.{ℕ, zero, suc, _+_, _-_, _*_, _/_, _%_, _≤_, _<_}
+use Prim.Native.Nat.{ℕ, zero, suc, _+_, _-_, _*_, _≤_, _<_}
 use native.Mathlib.Omega.{arith}
 use native.Mathlib.Nat.{add-zero}
 use lib.ListN.{length, take, drop, getD, length-append}
@@ -11,7 +11,7 @@ use Rattle.model.specs.declared.Kind.the-variants.{Subgraph, Translation}
 use Rattle.model.specs.Bytes.{Bytes}
 use Rattle.model.specs.Numbers.{le16, number}
 use Rattle.model.specs.Path.{Step, kindNumber, pathEntries, pathBodies, pathBytes}
-use Rattle.model.specs.Describe.{Leg, legs}
+use Rattle.model.specs.Describe.{legs}
 use Rattle.search.proofs.PathBytes.{length-path}
 use Rattle.describe.specs.Legs.{kindOf, legsAt, PathIn, startAt, pathLegs}
 
@@ -85,9 +85,9 @@ module _ (p : Bytes) (e at : ℕ) (a : Bytes) (s : Step) (ss : List Step) (t : S
     body-rest = t .body-rest;
     entries = sym (drop-drop 4 e p) ∙ ap (drop 4) (t .entries);
     bodies =
-      rw (size-read p e at a (s ∷ ss) t)
-      (sym (drop-drop (length a) at p) ∙ ap (drop (length a)) (t .bodies ∙ append-assoc a (pathBodies (s .next) ss) (t .body-rest))
-      ∙ drop-append-seam a (pathBodies (s .next) ss ++ t .body-rest));
+        rw (size-read p e at a (s ∷ ss) t)
+        (sym (drop-drop (length a) at p) ∙ ap (drop (length a)) (t .bodies ∙ append-assoc a (pathBodies (s .next) ss) (t .body-rest))
+        ∙ drop-append-seam a (pathBodies (s .next) ss ++ t .body-rest));
     few = omega (arith, t .few, length-append a (pathBodies (s .next) ss));
   }
 
@@ -119,8 +119,8 @@ module _ (p a : Bytes) (ss : List Step) (rest : Bytes) (d : p ≡ pathBytes a ss
     body-rest = rest;
     entries = ap (drop 2) d ∙ append-assoc (pathEntries a ss) (pathBodies a ss) rest;
     bodies =
-      ap (drop (2 + 4 * number p 0)) (d ∙ append-assoc (le16 (suc (length ss)) ++ pathEntries a ss) (pathBodies a ss) rest)
-      ∙ drop-at (le16 (suc (length ss)) ++ pathEntries a ss) (pathBodies a ss ++ rest) (2 + 4 * number p 0) (omega (arith, count-read, length-entries a ss));
+        ap (drop (2 + 4 * number p 0)) (d ∙ append-assoc (le16 (suc (length ss)) ++ pathEntries a ss) (pathBodies a ss) rest)
+        ∙ drop-at (le16 (suc (length ss)) ++ pathEntries a ss) (pathBodies a ss ++ rest) (2 + 4 * number p 0) (omega (arith, count-read, length-entries a ss));
     few = omega (arith, total);
   }
 

@@ -28,13 +28,7 @@ pub(crate) fn steps_length(path: &[u8], entry: usize, count: usize) -> usize
 }
 
 // Writes the lines of the `count` steps from byte `entry` on.
-pub(crate) fn put_steps(
-    out: &mut [u8],
-    at: usize,
-    path: &[u8],
-    entry: usize,
-    count: usize,
-) -> usize
+pub(crate) fn put_steps(out: &mut [u8], at: usize, path: &[u8], entry: usize, count: usize) -> usize
     requires { ⌜ EntriesIn (now path) entry count × (at + length (stepLines 1 (legsAt (now path) entry 0 count)) ≤ length (now out)) ⌝ }
     ensures { λ r. ⌜ Wrote (now (out .entry)) at (stepLines 1 (legsAt (now (path .entry)) entry 0 count)) r (now (out .exit)) ⌝ }
 {

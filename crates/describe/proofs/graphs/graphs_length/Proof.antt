@@ -1,10 +1,8 @@
 -- The lines so far and those that are left make the whole; no line has more than 65,552 bytes.
-use mathlib.Core.Path.{_≡_, ap, _∙_}
-use Prim.Native.Nat.{ℕ, _+_, _-_, _*_, _≤_}
-use lib.ListN.{length, take, drop, length-append}
-use Rattle.model.specs.Numbers.{number}
+use mathlib.Core.Path.{_≡_, ap}
+use Prim.Native.Nat.{_+_, _*_, _≤_}
+use lib.ListN.{length}
 use Rattle.model.specs.Describe.{graphLine, graphLines}
-use Rattle.model.specs.Bytes.{Bytes}
 use Rattle.describe.specs.Legs.{legsAt, LegsIn}
 use Rattle.describe.proofs.Runs.{graphs-turn, graphs-end, legs-rest, part-size}
 use Rattle.describe.proofs.Sequence.{two-lengths}
@@ -12,14 +10,9 @@ use borrow.Author.Needs.{needs}
 use native.Mathlib.Omega.{arith}
 use Rattle.describe.proofs.graphs.graphs_length.Statement.{statement}
 use Rattle.describe.proofs.graphs.graphs_length.Tie as tie
-use Rattle.describe.proofs.graphs.graphs_length.Reads as reads
-use Rattle.describe.proofs.graphs.graphs_length.Lts as lts
-use Rattle.describe.proofs.lines.graph_length.Reads as graph-length-reads
-use Rattle.text.proofs.part.Reads as part-reads
-use Rattle.text.proofs.read16.Reads as read16-reads
 
 abbrev Inv-loop : tie.InvT-loop
-Inv-loop path entry body count last size₀ i₀ e₀ at₀ left₀ size i e at left = 
+Inv-loop path entry body count last size₀ i₀ e₀ at₀ left₀ size i e at left =
     LegsIn path e at left
     × (size + length (graphLines i (legsAt path e at left) last) ≡ length (graphLines 1 (legsAt path entry body count) last))
     × (size + 65552 * left ≤ 65552 * count)
@@ -38,7 +31,7 @@ part-requires : tie.Need-part-requires Inv-loop μ-loop
 part-requires c κs = search needs
 
 graph-length-requires : tie.Need-graph-length-requires Inv-loop μ-loop
-graph-length-requires c κs = 
+graph-length-requires c κs =
     let l = c .before .before .before .loop in
     let s = c .before .before .before .before .before .before in
     (omega (arith, s .pre .0 .entries .end), omega (arith, ap length (c .part .ensures), part-size (s .args .path .now) (c .before .read16 .result) (l .at)))
@@ -62,7 +55,7 @@ loop-less : tie.Need-loop-less Inv-loop μ-loop
 loop-less c = search needs
 
 loop-again : tie.Need-loop-again Inv-loop μ-loop
-loop-again c = 
+loop-again c =
     let l = c .before .before .before .before .loop in
     let a = c .before .before .before .before .before .before .before .args in
     let p = a .path .now in
@@ -80,7 +73,7 @@ add-result : tie.Need-add-result Inv-loop μ-loop
 add-result c = omega (arith, c .before .before .before .before .before .pre .0 .entries .end)
 
 returns : tie.Need-returns Inv-loop μ-loop
-returns c = 
+returns c =
     let l = c .before .before .loop in
     let a = c .before .before .before .before .before .args in
     omega (arith, ap length (graphs-end (a .path .now) (l .e) (l .at) (l .left) (search needs) (l .i) (a .last .now)))

@@ -1,12 +1,9 @@
 -- Writing the lines that are left behind those written gives the whole.
 use mathlib.Core.Path.{_≡_, refl, sym, ap, _∙_}
-use Prim.Native.Nat.{ℕ, _+_, _-_, _*_, _≤_}
-use mathlib.Core.List.{_++_}
-use lib.ListN.{length, take, drop, length-append}
-use Rattle.model.specs.Numbers.{number}
+use Prim.Native.Nat.{_+_}
+use lib.ListN.{length}
 use Rattle.model.specs.Describe.{graphLine, graphLines}
-use Rattle.model.specs.Bytes.{Bytes, put}
-use Rattle.export.specs.Texts.{Wrote}
+use Rattle.model.specs.Bytes.{put}
 use Rattle.describe.specs.Legs.{legsAt, LegsIn}
 use Rattle.describe.proofs.Runs.{graphs-turn, graphs-end, legs-rest}
 use Rattle.describe.proofs.Sequence.{two-lengths, write-turn}
@@ -14,14 +11,9 @@ use borrow.Author.Needs.{needs}
 use native.Mathlib.Omega.{arith}
 use Rattle.describe.proofs.graphs.put_graphs.Statement.{statement}
 use Rattle.describe.proofs.graphs.put_graphs.Tie as tie
-use Rattle.describe.proofs.graphs.put_graphs.Reads as reads
-use Rattle.describe.proofs.graphs.put_graphs.Lts as lts
-use Rattle.describe.proofs.lines.put_graph.Reads as put-graph-reads
-use Rattle.text.proofs.part.Reads as part-reads
-use Rattle.text.proofs.read16.Reads as read16-reads
 
 abbrev Inv-loop : tie.InvT-loop
-Inv-loop out₀ at path entry body count last q₀ i₀ e₀ from₀ left₀ out q i e from left = 
+Inv-loop out₀ at path entry body count last q₀ i₀ e₀ from₀ left₀ out q i e from left =
     LegsIn path e from left
     × (length out ≡ length out₀)
     × (i + left ≡ 1 + count)
@@ -41,7 +33,7 @@ part-requires : tie.Need-part-requires Inv-loop μ-loop
 part-requires c κs = search needs
 
 put-graph-requires : tie.Need-put-graph-requires Inv-loop μ-loop
-put-graph-requires c κs = 
+put-graph-requires c κs =
     let l = c .before .before .before .before .loop in
     let s = c .before .before .before .before .before .before .before .before in
     let p = s .args .path .now in
@@ -67,7 +59,7 @@ loop-less : tie.Need-loop-less Inv-loop μ-loop
 loop-less c = search needs
 
 loop-again : tie.Need-loop-again Inv-loop μ-loop
-loop-again c = 
+loop-again c =
     let k = c .before .before in
     let n = k .before in
     let r = n .before .before .read16 in
@@ -81,7 +73,7 @@ loop-again c =
     (legs-rest p (l .e) (l .from) (l .left) (search needs) (r .result) (r .ensures .1) (l .inv .0), k .put-graph .kept .0 ∙ l .inv .1, omega arith, w .0 ∙ l .inv .3, w .1 ∙ l .inv .4)
 
 put-graph-requires-2 : tie.Need-put-graph-requires-2 Inv-loop μ-loop
-put-graph-requires-2 c κs = 
+put-graph-requires-2 c κs =
     let l = c .before .before .loop in
     let s = c .before .before .before .before .before .before in
     let e = graphs-end (s .args .path .now) (l .e) (l .from) (l .left) (search needs) (l .i) (s .args .last .now) in
@@ -91,7 +83,7 @@ same-length : tie.Need-same-length Inv-loop μ-loop
 same-length c = search needs
 
 returns : tie.Need-returns Inv-loop μ-loop
-returns c = 
+returns c =
     let k = c .before .before in
     let l = k .before .before .before .loop in
     let s = k .before .before .before .before .before .before .before in

@@ -1,8 +1,8 @@
 -- What is listed of the names so far and those still to come is what is listed of all.
-use mathlib.Core.Path.{_≡_, refl, sym, ap, _∙_}
+use mathlib.Core.Path.{_≡_, sym, ap, _∙_}
 use mathlib.Core.List.{List}
-use Prim.Native.Nat.{ℕ, _+_, _-_, _*_, _≤_}
-use lib.ListN.{length, take, drop}
+use Prim.Native.Nat.{ℕ}
+use lib.ListN.{take, drop}
 use borrow.Author.Tests.{eqb-true, eqb-false}
 use Rattle.model.specs.Bytes.{isEmpty}
 use Rattle.model.specs.Describe.{Leg, afterLastEmpty}
@@ -12,13 +12,9 @@ use borrow.Author.Needs.{needs}
 use native.Mathlib.Omega.{arith}
 use Rattle.describe.proofs.legs.after_last_empty.Statement.{statement}
 use Rattle.describe.proofs.legs.after_last_empty.Tie as tie
-use Rattle.describe.proofs.legs.after_last_empty.Reads as reads
-use Rattle.describe.proofs.legs.after_last_empty.Lts as lts
-use Rattle.text.proofs.part.Reads as part-reads
-use Rattle.text.proofs.read16.Reads as read16-reads
 
 abbrev Inv-loop : tie.InvT-loop
-Inv-loop path entry body count first₀ start₀ listed₀ e₀ at₀ left₀ first start listed e at left = 
+Inv-loop path entry body count first₀ start₀ listed₀ e₀ at₀ left₀ first start listed e at left =
     LegsIn path e at left
     × LegsIn path first start listed
     × (afterLastEmpty (legsAt path entry body count) ≡ keeping (legsAt path e at left) (legsAt path first start listed))
@@ -48,7 +44,7 @@ loop-less : tie.Need-loop-less Inv-loop μ-loop
 loop-less c = search needs
 
 loop-again : tie.Need-loop-again Inv-loop μ-loop
-loop-again c = 
+loop-again c =
     let n = c .before in
     let k = n .before .read16 in
     let l = n .before .before .before .loop in
@@ -61,7 +57,7 @@ loop-less-2 : tie.Need-loop-less-2 Inv-loop μ-loop
 loop-less-2 c = search needs
 
 loop-again-2 : tie.Need-loop-again-2 Inv-loop μ-loop
-loop-again-2 c = 
+loop-again-2 c =
     let n = c .before in
     let k = n .before .read16 in
     let l = n .before .before .before .loop in
@@ -71,7 +67,7 @@ loop-again-2 c =
     (rest, l .inv .1, rw (k .ensures .0) (l .inv .2 ∙ turn-full p (l .e) (l .at) (l .left) (search needs) _ name))
 
 returns : tie.Need-returns Inv-loop μ-loop
-returns c = 
+returns c =
     let l = c .before .loop in
     let p = c .before .before .before .args .path .now in
     record { stands = l .inv .1; same = sym (l .inv .2 ∙ ap (λ (ls : List Leg). keeping ls (legsAt p (l .first) (l .start) (l .listed))) (legs-end p (l .e) (l .at) (l .left) (search needs))) }

@@ -4,9 +4,6 @@ use Rattle.describe.proofs.Sizes.{few-digits, graph-size}
 use borrow.Author.Needs.{needs}
 use Rattle.describe.proofs.lines.graph_length.Statement.{statement}
 use Rattle.describe.proofs.lines.graph_length.Tie as tie
-use Rattle.describe.proofs.lines.graph_length.Reads as reads
-use Rattle.describe.proofs.lines.graph_length.Lts as lts
-use Rattle.text.proofs.decimal_length.Reads as decimal-length-reads
 
 decimal-length-requires : tie.Need-decimal-length-requires
 decimal-length-requires c κs = search needs

@@ -7,10 +7,6 @@ use Rattle.describe.proofs.Sequence.{wrote-four}
 use borrow.Author.Needs.{needs}
 use Rattle.describe.proofs.lines.put_graph.Statement.{statement}
 use Rattle.describe.proofs.lines.put_graph.Tie as tie
-use Rattle.describe.proofs.lines.put_graph.Reads as reads
-use Rattle.describe.proofs.lines.put_graph.Lts as lts
-use Rattle.text.proofs.copy.Reads as copy-reads
-use Rattle.text.proofs.put_decimal.Reads as put-decimal-reads
 
 put-decimal-requires : tie.Need-put-decimal-requires
 put-decimal-requires c κs = let s = c .before .before .before in omega (arith, s .pre, graph-size (s .args .i) (s .args .name .now))
@@ -34,7 +30,7 @@ same-length : tie.Need-same-length
 same-length c = search needs
 
 returns : tie.Need-returns
-returns c = 
+returns c =
     let z = c .before .before in
     let y = z .before .before .before .before .before in
     let x = y .before .before .before .before in

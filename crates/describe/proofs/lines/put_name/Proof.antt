@@ -7,10 +7,6 @@ use Rattle.describe.proofs.Sequence.{wrote-five}
 use borrow.Author.Needs.{needs}
 use Rattle.describe.proofs.lines.put_name.Statement.{statement}
 use Rattle.describe.proofs.lines.put_name.Tie as tie
-use Rattle.describe.proofs.lines.put_name.Reads as reads
-use Rattle.describe.proofs.lines.put_name.Lts as lts
-use Rattle.text.proofs.copy.Reads as copy-reads
-use Rattle.text.proofs.put_decimal.Reads as put-decimal-reads
 
 slice-aggregate-copy : tie.Need-slice-aggregate-copy
 slice-aggregate-copy c = search needs
@@ -40,7 +36,7 @@ same-length : tie.Need-same-length
 same-length c = search needs
 
 returns : tie.Need-returns
-returns c = 
+returns c =
     let z = c .before .before in
     let y = z .before .before .before .before .before in
     let x = y .before .before .before .before in

@@ -1,6 +1,6 @@
 -- The record's own name, or the words for none.
 use native.Mathlib.Omega.{arith}
-use mathlib.Core.Path.{ap, sym}
+use mathlib.Core.Path.{ap}
 use lib.ListN.{length}
 use Rattle.model.specs.Bytes.{Bytes}
 use Rattle.model.specs.Describe.{graphLine}
@@ -8,11 +8,6 @@ use Rattle.describe.proofs.Sizes.{no-name, its-name}
 use borrow.Author.Needs.{needs}
 use Rattle.describe.proofs.lines.put_own.Statement.{statement}
 use Rattle.describe.proofs.lines.put_own.Tie as tie
-use Rattle.describe.proofs.lines.put_own.Reads as reads
-use Rattle.describe.proofs.lines.put_own.Lts as lts
-use Rattle.describe.proofs.lines.put_graph.Reads as put-graph-reads
-use Rattle.record.proofs.name_at.Reads as name-at-reads
-use Rattle.text.proofs.read16.Reads as read16-reads
 
 read16-requires : tie.Need-read16-requires
 read16-requires c κs = search needs
@@ -21,7 +16,7 @@ slice-aggregate-put-graph : tie.Need-slice-aggregate-put-graph
 slice-aggregate-put-graph c = search needs
 
 put-graph-requires : tie.Need-put-graph-requires
-put-graph-requires c κs = 
+put-graph-requires c κs =
     let k = c .before .before in
     let r = k .before in
     let s = r .before .before .before in
@@ -32,7 +27,7 @@ same-length : tie.Need-same-length
 same-length c = search needs
 
 returns : tie.Need-returns
-returns c = 
+returns c =
     let d = c .before .before in
     let k = d .before .before .before in
     let r = k .before in
@@ -45,7 +40,7 @@ name-at-requires : tie.Need-name-at-requires
 name-at-requires c κs = search needs
 
 put-graph-requires-2 : tie.Need-put-graph-requires-2
-put-graph-requires-2 c κs = 
+put-graph-requires-2 c κs =
     let k = c .before .before in
     let r = k .before in
     let s = r .before .before .before in
@@ -56,7 +51,7 @@ same-length-2 : tie.Need-same-length-2
 same-length-2 c = search needs
 
 returns-2 : tie.Need-returns-2
-returns-2 c = 
+returns-2 c =
     let d = c .before .before in
     let n = d .before in
     let k = n .before .before in

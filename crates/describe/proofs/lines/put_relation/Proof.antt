@@ -1,14 +1,11 @@
 -- The words of each kind.
 use native.Mathlib.Omega.{arith}
-use mathlib.Core.Path.{ap, sym}
+use mathlib.Core.Path.{ap}
 use lib.ListN.{length}
 use Rattle.describe.proofs.Sizes.{subgraph-words, translation-words}
 use borrow.Author.Needs.{needs}
 use Rattle.describe.proofs.lines.put_relation.Statement.{statement}
 use Rattle.describe.proofs.lines.put_relation.Tie as tie
-use Rattle.describe.proofs.lines.put_relation.Reads as reads
-use Rattle.describe.proofs.lines.put_relation.Lts as lts
-use Rattle.text.proofs.copy.Reads as copy-reads
 
 slice-aggregate-copy : tie.Need-slice-aggregate-copy
 slice-aggregate-copy c = search needs
@@ -20,7 +17,7 @@ same-length : tie.Need-same-length
 same-length c = search needs
 
 returns : tie.Need-returns
-returns c = 
+returns c =
     let d = c .before .before in
     let k = d .before .before .before in
     rw (subgraph-words (k .before .before .args .kind) (k .if1 .taken)) (d .copy .ensures)
@@ -35,7 +32,7 @@ same-length-2 : tie.Need-same-length-2
 same-length-2 c = search needs
 
 returns-2 : tie.Need-returns-2
-returns-2 c = 
+returns-2 c =
     let d = c .before .before in
     let k = d .before .before .before in
     rw (translation-words (k .before .before .args .kind) (k .if1 .left)) (d .copy2 .ensures)

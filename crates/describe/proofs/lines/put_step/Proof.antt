@@ -10,11 +10,6 @@ use Rattle.describe.proofs.Sequence.{wrote-five}
 use borrow.Author.Needs.{needs}
 use Rattle.describe.proofs.lines.put_step.Statement.{statement}
 use Rattle.describe.proofs.lines.put_step.Tie as tie
-use Rattle.describe.proofs.lines.put_step.Reads as reads
-use Rattle.describe.proofs.lines.put_step.Lts as lts
-use Rattle.describe.proofs.lines.put_relation.Reads as put-relation-reads
-use Rattle.text.proofs.copy.Reads as copy-reads
-use Rattle.text.proofs.put_decimal.Reads as put-decimal-reads
 
 slice-aggregate-copy : tie.Need-slice-aggregate-copy
 slice-aggregate-copy c = search needs
@@ -44,7 +39,7 @@ same-length : tie.Need-same-length
 same-length c = search needs
 
 returns : tie.Need-returns
-returns c = 
+returns c =
     let z = c .before .before in
     let y = z .before .before .before .before .before in
     let x = y .before .before .before .before in

@@ -1,13 +1,10 @@
 -- The words of each kind.
 use native.Mathlib.Omega.{arith}
-use mathlib.Core.Path.{ap, sym}
+use mathlib.Core.Path.{ap}
 use lib.ListN.{length}
 use Rattle.describe.proofs.Sizes.{subgraph-words, translation-words}
-use borrow.Author.Needs.{needs}
 use Rattle.describe.proofs.lines.relation_length.Statement.{statement}
 use Rattle.describe.proofs.lines.relation_length.Tie as tie
-use Rattle.describe.proofs.lines.relation_length.Reads as reads
-use Rattle.describe.proofs.lines.relation_length.Lts as lts
 
 returns : tie.Need-returns
 returns c = omega (arith, ap length (subgraph-words (c .before .args .kind) (c .if1 .taken)))

@@ -6,10 +6,6 @@ use Rattle.describe.proofs.Sizes.{few-digits, step-size}
 use borrow.Author.Needs.{needs}
 use Rattle.describe.proofs.lines.step_length.Statement.{statement}
 use Rattle.describe.proofs.lines.step_length.Tie as tie
-use Rattle.describe.proofs.lines.step_length.Reads as reads
-use Rattle.describe.proofs.lines.step_length.Lts as lts
-use Rattle.describe.proofs.lines.relation_length.Reads as relation-length-reads
-use Rattle.text.proofs.decimal_length.Reads as decimal-length-reads
 
 decimal-length-requires : tie.Need-decimal-length-requires
 decimal-length-requires c κs = search needs

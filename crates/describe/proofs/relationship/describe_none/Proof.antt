@@ -1,39 +1,52 @@
+-- Refused for a long desc, then for want of room, else written.
+use native.Mathlib.Omega.{arith}
+use Rattle.model.specs.Numbers.{number}
+use Rattle.model.specs.Layout.{ownAt}
+use Rattle.model.specs.Describe.{describeNone}
+use Rattle.export.proofs.Answering.{refused-answers, wrote-answers}
+use Rattle.describe.proofs.Parts.{told-long, told-not, told-all, descs-short}
 use borrow.Author.Needs.{needs}
 use Rattle.describe.proofs.relationship.describe_none.Statement.{statement}
 use Rattle.describe.proofs.relationship.describe_none.Tie as tie
-use Rattle.describe.proofs.relationship.describe_none.Reads as reads
-use Rattle.describe.proofs.relationship.describe_none.Lts as lts
-use Rattle.describe.proofs.relationship.short.Reads as short-reads
-use Rattle.describe.proofs.whole.none_length.Reads as none-length-reads
-use Rattle.describe.proofs.whole.put_none.Reads as put-none-reads
 
--- src/relationship.rt:59:9
 short-requires : tie.Need-short-requires
 short-requires c κs = search needs
 
--- src/relationship.rt:60:9
 returns : tie.Need-returns
-returns c = ?
+returns c =
+    let k = c .before in
+    let a = k .before .before .before .before .before .before .args in
+    refused-answers _ (a .out .now) 18 (told-long (describeNone (ownAt (a .b .now) (number (a .b .now) 2)) (ownAt (a .c .now) (number (a .c .now) 2)) (a .from .now) (a .to .now)) (a .from .now) (a .to .now) _ (k .short .result) (k .short .ensures) (c .if1 .taken))
 
--- src/relationship.rt:62:20
 none-length-requires : tie.Need-none-length-requires
-none-length-requires c κs = ?
+none-length-requires c κs =
+    let k = c .before in
+    let s = k .before .before .before .before .before .before in
+    (s .pre .0, s .pre .1, descs-short (s .args .from .now) (s .args .to .now) (k .short .result) (k .short .ensures) (c .if1 .left))
 
--- src/relationship.rt:63:9
 returns-2 : tie.Need-returns-2
-returns-2 c = ?
+returns-2 c =
+    let n = c .before in
+    let k = n .before .before in
+    let a = k .before .before .before .before .before .before .args in
+    refused-answers _ (a .out .now) 17
+    (told-not (describeNone (ownAt (a .b .now) (number (a .b .now) 2)) (ownAt (a .c .now) (number (a .c .now) 2)) (a .from .now) (a .to .now)) (a .from .now) (a .to .now) _ (k .short .result) (k .short .ensures) (n .before .if1 .left) (omega (arith, n .none-length .ensures)))
 
--- src/relationship.rt:65:20
 put-none-requires : tie.Need-put-none-requires
 put-none-requires c κs = search needs
 
--- src/relationship.rt:55:1
 same-length : tie.Need-same-length
 same-length c = search needs
 
--- src/relationship.rt:55:1
 returns-3 : tie.Need-returns-3
-returns-3 c = ?
+returns-3 c =
+    let p = c .before .before in
+    let n = p .before .before .before in
+    let k = n .before .before in
+    let a = k .before .before .before .before .before .before .args in
+    let t = describeNone (ownAt (a .b .now) (number (a .b .now) 2)) (ownAt (a .c .now) (number (a .c .now) 2)) (a .from .now) (a .to .now) in
+    wrote-answers _ (a .out .now) t (p .put-none .result) (p .put-none .last .0)
+    (told-all t (a .from .now) (a .to .now) _ (k .short .result) (k .short .ensures) (n .before .if1 .left) (omega (arith, n .none-length .ensures))) (p .put-none .ensures)
 
 pub describe-none-spec : {M : Type 1} → statement M
 describe-none-spec =

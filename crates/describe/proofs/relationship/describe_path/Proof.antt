@@ -1,70 +1,106 @@
+-- Refused for a long desc, then for want of room, else written.
+use native.Mathlib.Omega.{arith}
+use mathlib.Core.Path.{ap, _∙_}
+use Prim.Native.Nat.{_+_, _*_}
+use lib.ListN.{length}
+use Rattle.model.specs.Bytes.{Bytes}
+use Rattle.model.specs.Describe.{describePath}
+use Rattle.describe.specs.Direction.{toldOf, pathTold}
+use Rattle.describe.specs.Legs.{legsAt}
+use Rattle.export.proofs.Answering.{refused-answers, wrote-answers}
+use Rattle.describe.proofs.Parts.{told-path, told-long, told-not, told-all, descs-short}
+use Rattle.describe.proofs.Runs.{part-size}
 use borrow.Author.Needs.{needs}
 use Rattle.describe.proofs.relationship.describe_path.Statement.{statement}
 use Rattle.describe.proofs.relationship.describe_path.Tie as tie
-use Rattle.describe.proofs.relationship.describe_path.Reads as reads
-use Rattle.describe.proofs.relationship.describe_path.Lts as lts
-use Rattle.describe.proofs.legs.after_last_empty.Reads as after-last-empty-reads
-use Rattle.describe.proofs.relationship.short.Reads as short-reads
-use Rattle.describe.proofs.whole.path_length.Reads as path-length-reads
-use Rattle.describe.proofs.whole.put_path.Reads as put-path-reads
-use Rattle.text.proofs.part.Reads as part-reads
-use Rattle.text.proofs.read16.Reads as read16-reads
 
--- src/relationship.rt:38:9
 short-requires : tie.Need-short-requires
 short-requires c κs = search needs
 
--- src/relationship.rt:39:9
 returns : tie.Need-returns
-returns c = ?
+returns c =
+    let k = c .before in
+    let a = k .before .before .before .before .before .args in
+    refused-answers _ (a .out .now) 18 (told-long (pathTold (a .path .now) (a .from .now) (a .to .now)) (a .from .now) (a .to .now) _ (k .short .result) (k .short .ensures) (c .if1 .taken))
 
--- src/relationship.rt:41:9
 read16-requires : tie.Need-read16-requires
 read16-requires c κs = search needs
 
--- src/relationship.rt:42:22
 mul-bodies : tie.Need-mul-bodies
 mul-bodies c = search needs
 
--- src/relationship.rt:42:18
 add-bodies : tie.Need-add-bodies
 add-bodies c = search needs
 
--- src/relationship.rt:43:50
 sub-after-last-empty : tie.Need-sub-after-last-empty
 sub-after-last-empty c = search needs
 
--- src/relationship.rt:43:9
 after-last-empty-requires : tie.Need-after-last-empty-requires
 after-last-empty-requires c κs = search needs
 
--- src/relationship.rt:47:36
 read16-requires-2 : tie.Need-read16-requires-2
 read16-requires-2 c κs = search needs
 
--- src/relationship.rt:47:9
 part-requires : tie.Need-part-requires
 part-requires c κs = search needs
 
--- src/relationship.rt:48:20
 path-length-requires : tie.Need-path-length-requires
-path-length-requires c κs = ?
+path-length-requires c κs =
+    let n = c in
+    let f = n .before .before in
+    let r = f .before in
+    let k = r .before .before in
+    let s = k .before .before .before .before .before in
+    let a = s .args in
+    let g = f .after-last-empty .result in (
+      f .after-last-empty .ensures .stands,
+      omega (arith, ap length (n .part .ensures), part-size (a .path .now) (n .before .read162 .result) (2 + 4 * r .read16 .result), n .before .read162 .ensures .1),
+      descs-short (a .from .now) (a .to .now) (k .short .result) (k .short .ensures) (r .before .if1 .left),
+    )
 
--- src/relationship.rt:49:9
 returns-2 : tie.Need-returns-2
-returns-2 c = ?
+returns-2 c =
+    let n = c .before .before in
+    let f = n .before .before in
+    let r = f .before in
+    let k = r .before .before in
+    let s = k .before .before .before .before .before in
+    let a = s .args in
+    let g = f .after-last-empty .result in
+    let t = describePath (n .part .result .now) (legsAt (a .path .now) (g .entry) (g .body) (g .count)) (a .from .now) (a .to .now) in
+    refused-answers _ (a .out .now) 17
+    (ap (λ (x : Bytes). toldOf x (a .from .now) (a .to .now) (length (a .out .now))) (told-path (a .path .now) (r .read16 .result) (n .before .read162 .result) (n .part .result .now) (legsAt (a .path .now) (g .entry) (g .body) (g .count)) (a .from .now) (a .to .now) (r .read16 .ensures .0) (n .before .read162 .ensures .0) (n .part .ensures) (f .after-last-empty .ensures .same))
+    ∙ told-not t (a .from .now) (a .to .now) _ (k .short .result) (k .short .ensures) (r .before .if1 .left) (omega (arith, c .before .path-length .ensures)))
 
--- src/relationship.rt:51:20
 put-path-requires : tie.Need-put-path-requires
-put-path-requires c κs = search needs
+put-path-requires c κs =
+    let n = c .before .before .before in
+    let f = n .before .before in
+    let r = f .before in
+    let k = r .before .before in
+    let s = k .before .before .before .before .before in
+    let a = s .args in
+    let g = f .after-last-empty .result in
+    (f .after-last-empty .ensures .stands, omega (arith, c .before .before .path-length .ensures))
 
--- src/relationship.rt:34:1
 same-length : tie.Need-same-length
 same-length c = search needs
 
--- src/relationship.rt:34:1
 returns-3 : tie.Need-returns-3
-returns-3 c = ?
+returns-3 c =
+    let p = c .before .before in
+    let n = p .before .before .before .before in
+    let f = n .before .before in
+    let r = f .before in
+    let k = r .before .before in
+    let s = k .before .before .before .before .before in
+    let a = s .args in
+    let g = f .after-last-empty .result in
+    let t = describePath (n .part .result .now) (legsAt (a .path .now) (g .entry) (g .body) (g .count)) (a .from .now) (a .to .now) in
+    wrote-answers _ (a .out .now) t (p .put-path .result) (p .put-path .last .0)
+    (ap (λ (x : Bytes). toldOf x (a .from .now) (a .to .now) (length (a .out .now))) (told-path (a .path .now) (r .read16 .result) (n .before .read162 .result) (n .part .result .now) (legsAt (a .path .now) (g .entry) (g .body) (g .count)) (a .from .now) (a .to .now) (r .read16 .ensures .0) (n .before .read162 .ensures .0) (n .part .ensures) (f .after-last-empty .ensures .same))
+    ∙ told-all t (a .from .now) (a .to .now) _ (k .short .result) (k .short .ensures) (r .before .if1 .left) (omega (arith, p .before .before .before .path-length .ensures)))
+    (p .put-path .ensures)
 
 pub describe-path-spec : {M : Type 1} → statement M
 describe-path-spec =

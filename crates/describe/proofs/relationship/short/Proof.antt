@@ -1,11 +1,8 @@
 -- Both tests.
 use lib.ListN.{length}
 use borrow.Author.Tests.{le-leb, lt-leb}
-use native.Mathlib.Omega.{arith}
 use Rattle.describe.proofs.relationship.short.Statement.{statement}
 use Rattle.describe.proofs.relationship.short.Tie as tie
-use Rattle.describe.proofs.relationship.short.Reads as reads
-use Rattle.describe.proofs.relationship.short.Lts as lts
 
 returns : tie.Need-returns
 returns c = rw (le-leb (length (c .before .args .from .now)) 4096 (c .if1 .taken))

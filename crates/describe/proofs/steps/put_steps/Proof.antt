@@ -1,11 +1,10 @@
 -- Writing the lines that are left behind those written gives the whole.
 use mathlib.Core.Path.{_≡_, refl, sym, ap, _∙_}
-use Prim.Native.Nat.{ℕ, _+_, _*_, _≤_}
-use lib.ListN.{length, length-append}
+use Prim.Native.Nat.{_+_}
+use lib.ListN.{length}
 use Rattle.model.specs.Bytes.{put}
 use Rattle.model.specs.Describe.{stepLines}
 use Rattle.text.proofs.Put.{put-none}
-use Rattle.export.specs.Texts.{Wrote}
 use Rattle.describe.specs.Lines.{stepLine}
 use Rattle.describe.specs.Legs.{kindOf, legsAt, EntriesIn}
 use Rattle.describe.proofs.Runs.{steps-turn, steps-end, entries-rest}
@@ -14,13 +13,9 @@ use borrow.Author.Needs.{needs}
 use native.Mathlib.Omega.{arith}
 use Rattle.describe.proofs.steps.put_steps.Statement.{statement}
 use Rattle.describe.proofs.steps.put_steps.Tie as tie
-use Rattle.describe.proofs.steps.put_steps.Reads as reads
-use Rattle.describe.proofs.steps.put_steps.Lts as lts
-use Rattle.describe.proofs.lines.put_step.Reads as put-step-reads
-use Rattle.text.proofs.read16.Reads as read16-reads
 
 abbrev Inv-loop : tie.InvT-loop
-Inv-loop out₀ at path entry count q₀ i₀ e₀ left₀ out q i e left = 
+Inv-loop out₀ at path entry count q₀ i₀ e₀ left₀ out q i e left =
     EntriesIn path e left
     × (length out ≡ length out₀)
     × (i + left ≡ 1 + count)
@@ -40,7 +35,7 @@ read16-requires : tie.Need-read16-requires Inv-loop μ-loop
 read16-requires c κs = let l = c .before .before .loop in omega (arith, l .inv .0 .size, l .inv .0 .end)
 
 put-step-requires : tie.Need-put-step-requires Inv-loop μ-loop
-put-step-requires c κs = 
+put-step-requires c κs =
     let l = c .before .before .before .loop in
     let s = c .before .before .before .before .before .before in
     let p = s .args .path .now in
@@ -61,7 +56,7 @@ loop-less : tie.Need-loop-less Inv-loop μ-loop
 loop-less c = search needs
 
 loop-again : tie.Need-loop-again Inv-loop μ-loop
-loop-again c = 
+loop-again c =
     let k = c .before .before in
     let l = k .before .before .before .before .loop in
     let s = k .before .before .before .before .before .before .before in
@@ -76,7 +71,7 @@ same-length : tie.Need-same-length Inv-loop μ-loop
 same-length c = search needs
 
 returns : tie.Need-returns Inv-loop μ-loop
-returns c = 
+returns c =
     let l = c .before .loop in
     let p = c .before .before .before .before .args .path .now in
     let none = steps-end p (l .e) 0 (l .left) (search needs) (l .i) in

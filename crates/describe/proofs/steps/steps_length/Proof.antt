@@ -1,7 +1,7 @@
 -- The lines so far and those that are left make the whole; no line has more than 64 bytes.
-use mathlib.Core.Path.{_≡_, ap, _∙_}
-use Prim.Native.Nat.{ℕ, _+_, _*_, _≤_}
-use lib.ListN.{length, length-append}
+use mathlib.Core.Path.{_≡_, ap}
+use Prim.Native.Nat.{_+_, _*_, _≤_}
+use lib.ListN.{length}
 use Rattle.model.specs.Describe.{stepLines}
 use Rattle.describe.specs.Lines.{stepLine}
 use Rattle.describe.specs.Legs.{kindOf, legsAt, EntriesIn}
@@ -11,13 +11,9 @@ use borrow.Author.Needs.{needs}
 use native.Mathlib.Omega.{arith}
 use Rattle.describe.proofs.steps.steps_length.Statement.{statement}
 use Rattle.describe.proofs.steps.steps_length.Tie as tie
-use Rattle.describe.proofs.steps.steps_length.Reads as reads
-use Rattle.describe.proofs.steps.steps_length.Lts as lts
-use Rattle.describe.proofs.lines.step_length.Reads as step-length-reads
-use Rattle.text.proofs.read16.Reads as read16-reads
 
 abbrev Inv-loop : tie.InvT-loop
-Inv-loop path entry count size₀ i₀ e₀ left₀ size i e left = 
+Inv-loop path entry count size₀ i₀ e₀ left₀ size i e left =
     EntriesIn path e left
     × (size + length (stepLines i (legsAt path e 0 left)) ≡ length (stepLines 1 (legsAt path entry 0 count)))
     × (size + 64 * left ≤ 64 * count)
@@ -54,7 +50,7 @@ loop-less : tie.Need-loop-less Inv-loop μ-loop
 loop-less c = search needs
 
 loop-again : tie.Need-loop-again Inv-loop μ-loop
-loop-again c = 
+loop-again c =
     let l = c .before .before .before .loop in
     let p = c .before .before .before .before .before .args .path .now in
     let k = c .before .read16 in
@@ -62,7 +58,7 @@ loop-again c =
     (entries-rest p (l .e) 0 (l .left) (search needs) (l .inv .0), omega (arith, c .step-length .ensures .0), omega (arith, c .step-length .ensures .1), omega arith)
 
 returns : tie.Need-returns Inv-loop μ-loop
-returns c = 
+returns c =
     let l = c .before .loop in
     let p = c .before .before .before .args .path .now in
     omega (arith, ap length (steps-end p (l .e) 0 (l .left) (search needs) (l .i)))

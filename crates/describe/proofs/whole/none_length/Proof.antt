@@ -6,10 +6,6 @@ use Rattle.describe.proofs.Parts.{none-size}
 use borrow.Author.Needs.{needs}
 use Rattle.describe.proofs.whole.none_length.Statement.{statement}
 use Rattle.describe.proofs.whole.none_length.Tie as tie
-use Rattle.describe.proofs.whole.none_length.Reads as reads
-use Rattle.describe.proofs.whole.none_length.Lts as lts
-use Rattle.describe.proofs.lines.name_length.Reads as name-length-reads
-use Rattle.describe.proofs.lines.own_length.Reads as own-length-reads
 
 name-length-requires : tie.Need-name-length-requires
 name-length-requires c κs = search needs

@@ -4,11 +4,6 @@ use Rattle.describe.proofs.Parts.{path-size}
 use borrow.Author.Needs.{needs}
 use Rattle.describe.proofs.whole.path_length.Statement.{statement}
 use Rattle.describe.proofs.whole.path_length.Tie as tie
-use Rattle.describe.proofs.whole.path_length.Reads as reads
-use Rattle.describe.proofs.whole.path_length.Lts as lts
-use Rattle.describe.proofs.graphs.graphs_length.Reads as graphs-length-reads
-use Rattle.describe.proofs.lines.name_length.Reads as name-length-reads
-use Rattle.describe.proofs.steps.steps_length.Reads as steps-length-reads
 
 name-length-requires : tie.Need-name-length-requires
 name-length-requires c κs = search needs

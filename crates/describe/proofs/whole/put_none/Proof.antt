@@ -9,11 +9,6 @@ use Rattle.describe.proofs.Sequence.{wrote-five}
 use borrow.Author.Needs.{needs}
 use Rattle.describe.proofs.whole.put_none.Statement.{statement}
 use Rattle.describe.proofs.whole.put_none.Tie as tie
-use Rattle.describe.proofs.whole.put_none.Reads as reads
-use Rattle.describe.proofs.whole.put_none.Lts as lts
-use Rattle.describe.proofs.lines.put_name.Reads as put-name-reads
-use Rattle.describe.proofs.lines.put_own.Reads as put-own-reads
-use Rattle.text.proofs.copy.Reads as copy-reads
 
 put-name-requires : tie.Need-put-name-requires
 put-name-requires c κs = let s = c .before .before .before .before .before .before in omega (arith, s .pre .2, none-size (ownAt (s .args .b .now) (number (s .args .b .now) 2)) (ownAt (s .args .c .now) (number (s .args .c .now) 2)) (s .args .from .now) (s .args .to .now))
@@ -37,7 +32,7 @@ same-length : tie.Need-same-length
 same-length c = search needs
 
 returns : tie.Need-returns
-returns c = 
+returns c =
     let z = c .before .before in
     let y = z .before .before .before .before in
     let x = y .before .before .before .before in

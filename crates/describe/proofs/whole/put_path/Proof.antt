@@ -13,12 +13,6 @@ use Rattle.describe.proofs.Sequence.{wrote-five}
 use borrow.Author.Needs.{needs}
 use Rattle.describe.proofs.whole.put_path.Statement.{statement}
 use Rattle.describe.proofs.whole.put_path.Tie as tie
-use Rattle.describe.proofs.whole.put_path.Reads as reads
-use Rattle.describe.proofs.whole.put_path.Lts as lts
-use Rattle.describe.proofs.graphs.put_graphs.Reads as put-graphs-reads
-use Rattle.describe.proofs.lines.put_name.Reads as put-name-reads
-use Rattle.describe.proofs.steps.put_steps.Reads as put-steps-reads
-use Rattle.text.proofs.copy.Reads as copy-reads
 
 put-name-requires : tie.Need-put-name-requires
 put-name-requires c κs = let s = c .before .before .before .before .before .before in omega (arith, s .pre .1, path-size (s .args .path .now) (s .args .entry) (s .args .body) (s .args .count) (s .args .last .now) (s .args .from .now) (s .args .to .now))
@@ -45,7 +39,7 @@ same-length : tie.Need-same-length
 same-length c = search needs
 
 returns : tie.Need-returns
-returns c = 
+returns c =
     let z = c .before .before in
     let y = z .before .before .before .before in
     let x = y .before .before .before .before .before in
