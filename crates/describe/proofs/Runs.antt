@@ -72,8 +72,8 @@ module _ (p : Bytes) (e body left : ℕ) (h : left ≤ 0) where
   graphs-end i last = rw legs-end
 
 -- a part is no longer than its number says
-pub part-size : (p : Bytes) (k at : ℕ) → length (take k (drop at p)) ≤ k
-part-size p k at = simp length-take (omega arith)
+pub part-size : (s : Bytes) (k : ℕ) (part : Bytes) → part ≡ take k s → length part ≤ k
+part-size s k part e = rw e (simp length-take (omega arith))
 
 -- ------------------------------------------------------------------ the last empty name
 

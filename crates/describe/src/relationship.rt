@@ -39,12 +39,11 @@ fn describe_path(path: &[u8], from: &[u8], to: &[u8], out: &mut [u8]) -> Written
         return Written::Refused(18);
     }
     let n = read16(path, 0);
-    let bodies = 2 + 4 * n;
-    let legs = after_last_empty(path, 2, bodies, n - 1);
+    let legs = after_last_empty(path, 2, 2 + 4 * n, n - 1);
     let entry = legs.entry;
     let body = legs.body;
     let count = legs.count;
-    let start = part(path, bodies, read16(path, 2));
+    let start = part(path, 2 + 4 * n, read16(path, 2));
     if out.len() < path_length(path, entry, body, count, start, from, to) {
         return Written::Refused(17);
     }

@@ -32,9 +32,8 @@ part-requires c κs = search needs
 
 graph-length-requires : tie.Need-graph-length-requires Inv-loop μ-loop
 graph-length-requires c κs =
-    let l = c .before .before .before .loop in
     let s = c .before .before .before .before .before .before in
-    (omega (arith, s .pre .0 .entries .end), omega (arith, ap length (c .part .ensures), part-size (s .args .path .now) (c .before .read16 .result) (l .at)))
+    (omega (arith, s .pre .0 .entries .end), omega (arith, part-size _ (c .before .read16 .result) (c .part .result .now) (c .part .ensures)))
 
 add-size : tie.Need-add-size Inv-loop μ-loop
 add-size c = omega (arith, c .before .before .before .before .before .before .before .pre .0 .entries .end)

@@ -46,7 +46,8 @@ describe-none-requires c κs =
     let s = e .before .before .before .before .before .before .before .before in
     let a = s .args in
     let found = subst (λ (w : Direction). Finds (a .b .now) (a .c .now) w (a .path .now)) (e .enum-told3 .given .1) (s .pre) in
-    apart-owners (a .c .now) (a .b .now) (found .0)
+    let owners = apart-owners (a .c .now) (a .b .now) (found .0) in
+    search needs
 
 returns : tie.Need-returns
 returns c =
