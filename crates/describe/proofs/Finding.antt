@@ -134,7 +134,9 @@ module _ (b c out : Bytes) (r : Reply) (o : Bytes) (room : length out ≡ 49152)
   path-found q size = ⊎-elim (λ (t : Faulty b c). let z : _≡_ {A = ℕ} 2 0 = ap case (sym q ∙ reply ∙ ap replyOf (t .0)) in absurd (omega arith)) there (searched b c)
     where
       there : Searched b c → Leads b c o
-      there s = go (fullPath (s .g) (s .h)) refl (ap case (sym q ∙ reply ∙ ap replyOf (s .whole))) (told .1 ∙ ap (λ (n : ℕ). outputAfter (askFull b c n) out) room ∙ ap (λ (x : Answer). outputAfter x out) (s .whole))
+      there s =
+          go (fullPath (s .g) (s .h)) refl (ap case (sym q ∙ reply ∙ ap replyOf (s .whole)))
+          (told .1 ∙ ap (λ (n : ℕ). outputAfter (askFull b c n) out) room ∙ ap (λ (x : Answer). outputAfter x out) (s .whole))
         where
           go : (p : Option (List Step)) → fullPath (s .g) (s .h) ≡ p → 2 ≡ case (replyOf (answered (nameOr (s .g .name)) p))
               → o ≡ outputAfter (answered (nameOr (s .g .name)) p) out → Leads b c o

@@ -36,7 +36,8 @@ returns : tie.Need-returns
 returns c =
     let k = c .before .before .before .before .before in
     let s = k .before .before .before .before .before in
-    refused-fault (s .args .b .now) (s .args .c .now) (s .args .path .now) _ (k .translates-to .last .1 .1 .0) (s .pre) (k .translates-to .ensures) (c .before .n .given .0 .0) (c .before .n .given .1)
+    refused-fault (s .args .b .now) (s .args .c .now) (s .args .path .now) _ (k .translates-to .last .1 .1 .0)
+    (s .pre) (k .translates-to .ensures) (c .before .n .given .0 .0) (c .before .n .given .1)
 
 same-length-2 : tie.Need-same-length-2
 same-length-2 c = search needs
@@ -45,7 +46,8 @@ returns-2 : tie.Need-returns-2
 returns-2 c =
     let k = c .before .before .before .before in
     let s = k .before .before .before .before .before in
-    path-found (s .args .b .now) (s .args .c .now) (s .args .path .now) _ (k .translates-to .last .1 .1 .0) (s .pre) (k .translates-to .ensures) (c .enum-told .given .1) (k .translates-to .kept .1 .1 .0 ∙ s .pre)
+    path-found (s .args .b .now) (s .args .c .now) (s .args .path .now) _ (k .translates-to .last .1 .1 .0)
+    (s .pre) (k .translates-to .ensures) (c .enum-told .given .1) (k .translates-to .kept .1 .1 .0 ∙ s .pre)
 
 same-length-3 : tie.Need-same-length-3
 same-length-3 c = search needs
@@ -56,9 +58,11 @@ returns-3 c =
     let k = m .before .before .before .before .before .before in
     let s = k .before .before .before .before .before in
     let back =
-    refused-fault (s .args .c .now) (s .args .b .now) (k .translates-to .last .1 .1 .0) _ (m .translates-to2 .last .1 .1 .0) (k .translates-to .kept .1 .1 .0 ∙ s .pre) (m .translates-to2 .ensures) (c .before .n2 .given .0 .0) (c .before .n2 .given .1) in
+    refused-fault (s .args .c .now) (s .args .b .now) (k .translates-to .last .1 .1 .0) _ (m .translates-to2 .last .1 .1 .0)
+    (k .translates-to .kept .1 .1 .0 ∙ s .pre) (m .translates-to2 .ensures) (c .before .n2 .given .0 .0) (c .before .n2 .given .1) in
     let none =
-    not-found (s .args .b .now) (s .args .c .now) (s .args .path .now) _ (k .translates-to .last .1 .1 .0) (s .pre) (k .translates-to .ensures) (m .before .before .enum-told2 .given .1) in
+    not-found (s .args .b .now) (s .args .c .now) (s .args .path .now) _ (k .translates-to .last .1 .1 .0)
+    (s .pre) (k .translates-to .ensures) (m .before .before .enum-told2 .given .1) in
     absurd (back .1 (back .0 ∙ no-fault (s .args .c .now) (s .args .b .now) (none .h) (none .g) (none .second) (none .first)))
 
 same-length-4 : tie.Need-same-length-4
@@ -71,9 +75,11 @@ returns-4 c =
     let s = k .before .before .before .before .before in
     let size = k .translates-to .kept .1 .1 .0 ∙ s .pre in
     let back =
-    path-found (s .args .c .now) (s .args .b .now) (k .translates-to .last .1 .1 .0) _ (m .translates-to2 .last .1 .1 .0) size (m .translates-to2 .ensures) (c .enum-told3 .given .1) (m .translates-to2 .kept .1 .1 .0 ∙ size) in
+    path-found (s .args .c .now) (s .args .b .now) (k .translates-to .last .1 .1 .0) _ (m .translates-to2 .last .1 .1 .0)
+    size (m .translates-to2 .ensures) (c .enum-told3 .given .1) (m .translates-to2 .kept .1 .1 .0 ∙ size) in
     let none =
-    not-found (s .args .b .now) (s .args .c .now) (s .args .path .now) _ (k .translates-to .last .1 .1 .0) (s .pre) (k .translates-to .ensures) (m .before .before .enum-told2 .given .1) in
+    not-found (s .args .b .now) (s .args .c .now) (s .args .path .now) _ (k .translates-to .last .1 .1 .0)
+    (s .pre) (k .translates-to .ensures) (m .before .before .enum-told2 .given .1) in
     (back, none)
 
 same-length-5 : tie.Need-same-length-5
@@ -85,9 +91,11 @@ returns-5 c =
     let k = m .before .before .before .before .before .before in
     let s = k .before .before .before .before .before in
     let back =
-    not-found (s .args .c .now) (s .args .b .now) (k .translates-to .last .1 .1 .0) _ (m .translates-to2 .last .1 .1 .0) (k .translates-to .kept .1 .1 .0 ∙ s .pre) (m .translates-to2 .ensures) (c .enum-told4 .given .1) in
+    not-found (s .args .c .now) (s .args .b .now) (k .translates-to .last .1 .1 .0) _ (m .translates-to2 .last .1 .1 .0)
+    (k .translates-to .kept .1 .1 .0 ∙ s .pre) (m .translates-to2 .ensures) (c .enum-told4 .given .1) in
     let none =
-    not-found (s .args .b .now) (s .args .c .now) (s .args .path .now) _ (k .translates-to .last .1 .1 .0) (s .pre) (k .translates-to .ensures) (m .before .before .enum-told2 .given .1) in
+    not-found (s .args .b .now) (s .args .c .now) (s .args .path .now) _ (k .translates-to .last .1 .1 .0)
+    (s .pre) (k .translates-to .ensures) (m .before .before .enum-told2 .given .1) in
     (back, none)
 
 pub find-path-spec : {M : Type 1} → statement M

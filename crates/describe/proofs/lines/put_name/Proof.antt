@@ -1,4 +1,6 @@
 -- Five texts, one behind the other.
+use lib.ListN.{length}
+use Prim.Native.Nat.{_+_, _≤_}
 use native.Mathlib.Omega.{arith}
 use Rattle.model.specs.Text.{text}
 use Rattle.model.specs.Numbers.{decimal}
@@ -8,29 +10,49 @@ use borrow.Author.Needs.{needs}
 use Rattle.describe.proofs.lines.put_name.Statement.{statement}
 use Rattle.describe.proofs.lines.put_name.Tie as tie
 
+-- the room for all of them
+room : (s : tie.Start) → s .args .at + (14 + length (decimal (s .args .n)) + length (s .args .desc .now)) ≤ length (s .args .out .now)
+room s = omega (arith, s .pre, name-size (s .args .n) (s .args .desc .now))
+
+-- the start, from each call
+abbrev start1 : tie.After-copy-arg2 → tie.Start
+start1 c = c .before .before .before .before
+
+abbrev start2 : tie.After-put-decimal-arg → tie.Start
+start2 c = start1 (c .before .before .before .before)
+
+abbrev start3 : tie.After-copy-arg4 → tie.Start
+start3 c = start2 (c .before .before .before .before .before)
+
+abbrev start4 : tie.After-copy-arg5 → tie.Start
+start4 c = start3 (c .before .before .before .before)
+
+abbrev start5 : tie.After-copy-arg7 → tie.Start
+start5 c = start4 (c .before .before .before .before .before)
+
 slice-aggregate-copy : tie.Need-slice-aggregate-copy
 slice-aggregate-copy c = search needs
 
 copy-requires : tie.Need-copy-requires
-copy-requires c κs = let s = c .before .before .before .before in omega (arith, s .pre, name-size (s .args .n) (s .args .desc .now))
+copy-requires c κs = omega (arith, room (start1 c))
 
 put-decimal-requires : tie.Need-put-decimal-requires
-put-decimal-requires c κs = let s = c .before .before .before .before .before .before .before .before in omega (arith, s .pre, name-size (s .args .n) (s .args .desc .now))
+put-decimal-requires c κs = omega (arith, room (start2 c))
 
 slice-aggregate-copy-2 : tie.Need-slice-aggregate-copy-2
 slice-aggregate-copy-2 c = search needs
 
 copy-requires-2 : tie.Need-copy-requires-2
-copy-requires-2 c κs = let s = c .before .before .before .before .before .before .before .before .before .before .before .before .before in omega (arith, s .pre, name-size (s .args .n) (s .args .desc .now))
+copy-requires-2 c κs = omega (arith, room (start3 c))
 
 copy-requires-3 : tie.Need-copy-requires-3
-copy-requires-3 c κs = let s = c .before .before .before .before .before .before .before .before .before .before .before .before .before .before .before .before .before in omega (arith, s .pre, name-size (s .args .n) (s .args .desc .now))
+copy-requires-3 c κs = omega (arith, room (start4 c))
 
 slice-aggregate-copy-3 : tie.Need-slice-aggregate-copy-3
 slice-aggregate-copy-3 c = search needs
 
 copy-requires-4 : tie.Need-copy-requires-4
-copy-requires-4 c κs = let s = c .before .before .before .before .before .before .before .before .before .before .before .before .before .before .before .before .before .before .before .before .before .before in omega (arith, s .pre, name-size (s .args .n) (s .args .desc .now))
+copy-requires-4 c κs = omega (arith, room (start5 c))
 
 same-length : tie.Need-same-length
 same-length c = search needs

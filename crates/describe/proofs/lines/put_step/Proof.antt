@@ -1,8 +1,9 @@
 -- Five texts, one behind the other.
+use lib.ListN.{length}
 use native.Mathlib.Omega.{arith}
 use Rattle.model.specs.Text.{text}
 use Rattle.model.specs.Numbers.{decimal}
-use Prim.Native.Nat.{_+_}
+use Prim.Native.Nat.{_+_, _≤_}
 use Rattle.model.specs.Describe.{relationWords}
 use Rattle.describe.specs.Legs.{kindOf}
 use Rattle.describe.proofs.Sizes.{step-size}
@@ -11,29 +12,50 @@ use borrow.Author.Needs.{needs}
 use Rattle.describe.proofs.lines.put_step.Statement.{statement}
 use Rattle.describe.proofs.lines.put_step.Tie as tie
 
+-- the room for all of them
+room : (s : tie.Start) → s .args .at + (7 + length (decimal (s .args .i)) + length (relationWords (kindOf (s .args .kind))) + length (decimal (s .args .i + 1)))
+    ≤ length (s .args .out .now)
+room s = omega (arith, s .pre .1, step-size (s .args .i) (kindOf (s .args .kind)))
+
+-- the start, from each call
+abbrev start1 : tie.After-copy-arg2 → tie.Start
+start1 c = c .before .before .before
+
+abbrev start2 : tie.After-put-decimal-arg → tie.Start
+start2 c = start1 (c .before .before .before .before)
+
+abbrev start3 : tie.After-put-relation-arg → tie.Start
+start3 c = start2 (c .before .before .before .before)
+
+abbrev start4 : tie.After-put-decimal-arg2 → tie.Start
+start4 c = start3 (c .before .before .before .before)
+
+abbrev start5 : tie.After-copy-arg4 → tie.Start
+start5 c = start4 (c .before .before .before .before .before)
+
 slice-aggregate-copy : tie.Need-slice-aggregate-copy
 slice-aggregate-copy c = search needs
 
 copy-requires : tie.Need-copy-requires
-copy-requires c κs = let s = c .before .before .before in omega (arith, s .pre .1, step-size (s .args .i) (kindOf (s .args .kind)))
+copy-requires c κs = omega (arith, room (start1 c))
 
 put-decimal-requires : tie.Need-put-decimal-requires
-put-decimal-requires c κs = let s = c .before .before .before .before .before .before .before in omega (arith, s .pre .1, step-size (s .args .i) (kindOf (s .args .kind)))
+put-decimal-requires c κs = omega (arith, room (start2 c))
 
 put-relation-requires : tie.Need-put-relation-requires
-put-relation-requires c κs = let s = c .before .before .before .before .before .before .before .before .before .before .before in omega (arith, s .pre .1, step-size (s .args .i) (kindOf (s .args .kind)))
+put-relation-requires c κs = omega (arith, room (start3 c))
 
 add-put-decimal : tie.Need-add-put-decimal
 add-put-decimal c = search needs
 
 put-decimal-requires-2 : tie.Need-put-decimal-requires-2
-put-decimal-requires-2 c κs = let s = c .before .before .before .before .before .before .before .before .before .before .before .before .before .before .before in omega (arith, s .pre .1, step-size (s .args .i) (kindOf (s .args .kind)))
+put-decimal-requires-2 c κs = omega (arith, room (start4 c))
 
 slice-aggregate-copy-2 : tie.Need-slice-aggregate-copy-2
 slice-aggregate-copy-2 c = search needs
 
 copy-requires-2 : tie.Need-copy-requires-2
-copy-requires-2 c κs = let s = c .before .before .before .before .before .before .before .before .before .before .before .before .before .before .before .before .before .before .before .before in omega (arith, s .pre .1, step-size (s .args .i) (kindOf (s .args .kind)))
+copy-requires-2 c κs = omega (arith, room (start5 c))
 
 same-length : tie.Need-same-length
 same-length c = search needs

@@ -1,5 +1,5 @@
 -- The text that what was found decides.
-use mathlib.Core.Path.{sym, subst}
+use mathlib.Core.Path.{_≡_, sym, subst}
 use lib.ListN.{length}
 use Rattle.model.specs.Bytes.{Bytes}
 use Rattle.model.specs.Questions.{Given}
@@ -12,6 +12,10 @@ use borrow.Author.Needs.{needs}
 use Rattle.describe.proofs.relationship.describe_found.Statement.{statement}
 use Rattle.describe.proofs.relationship.describe_found.Tie as tie
 
+-- what was found, in the case that the code is in
+found-as : (s : tie.Start) (way : Direction) → s .args .way ≡ way → Finds (s .args .b .now) (s .args .c .now) way (s .args .path .now)
+found-as s way e = subst (λ (w : Direction). Finds (s .args .b .now) (s .args .c .now) w (s .args .path .now)) e (s .pre)
+
 enum-known-way : tie.Need-enum-known-way
 enum-known-way c = search needs
 
@@ -23,7 +27,7 @@ describe-path-requires c κs =
     let e = c .before in
     let s = e .before .before .before .before .before .before .before .before in
     let a = s .args in
-    let found = subst (λ (w : Direction). Finds (a .b .now) (a .c .now) w (a .path .now)) (e .enum-told .given .1) (s .pre) in
+    let found = found-as s _ (e .enum-told .given .1) in
     leads-path (a .b .now) (a .c .now) (a .path .now) found
 
 enum-told-2 : tie.Need-enum-told-2
@@ -34,7 +38,7 @@ describe-path-requires-2 c κs =
     let e = c .before in
     let s = e .before .before .before .before .before .before .before .before in
     let a = s .args in
-    let found = subst (λ (w : Direction). Finds (a .b .now) (a .c .now) w (a .path .now)) (e .enum-told2 .given .1) (s .pre) in
+    let found = found-as s _ (e .enum-told2 .given .1) in
     leads-path (a .c .now) (a .b .now) (a .path .now) (found .0)
 
 enum-told-3 : tie.Need-enum-told-3
@@ -45,7 +49,7 @@ describe-none-requires c κs =
     let e = c .before in
     let s = e .before .before .before .before .before .before .before .before in
     let a = s .args in
-    let found = subst (λ (w : Direction). Finds (a .b .now) (a .c .now) w (a .path .now)) (e .enum-told3 .given .1) (s .pre) in
+    let found = found-as s _ (e .enum-told3 .given .1) in
     let owners = apart-owners (a .c .now) (a .b .now) (found .0) in
     search needs
 
@@ -53,8 +57,9 @@ returns : tie.Need-returns
 returns c =
     let s = c .before .before .before .before .before .before .before .before .before in
     let a = s .args in
-    let found = subst (λ (w : Direction). Finds (a .b .now) (a .c .now) w (a .path .now)) (c .before .way .given .1) (s .pre) in
-    refused-answers _ (a .out .now) (c .before .way .given .0 .0) (told-fault (a .b .now) (a .c .now) (a .self-desc .now) (a .other-desc .now) (length (a .out .now)) (c .before .way .given .0 .0) found)
+    let found = found-as s _ (c .before .way .given .1) in
+    refused-answers _ (a .out .now) (c .before .way .given .0 .0)
+    (told-fault (a .b .now) (a .c .now) (a .self-desc .now) (a .other-desc .now) (length (a .out .now)) (c .before .way .given .0 .0) found)
 
 same-length : tie.Need-same-length
 same-length c = search needs
@@ -65,8 +70,9 @@ returns-2 c =
     let e = m .before .before in
     let s = e .before .before .before .before .before .before .before .before in
     let a = s .args in
-    let found = subst (λ (w : Direction). Finds (a .b .now) (a .c .now) w (a .path .now)) (e .enum-told .given .1) (s .pre) in
-    subst (λ (x : Given Bytes). Answers x (a .out .now) (m .describe-path .result) (m .describe-path .last .1 .1 .1 .0)) (sym (told-forward (a .b .now) (a .c .now) (a .self-desc .now) (a .other-desc .now) (length (a .out .now)) (a .path .now) found)) (m .describe-path .ensures)
+    let found = found-as s _ (e .enum-told .given .1) in
+    let same = told-forward (a .b .now) (a .c .now) (a .self-desc .now) (a .other-desc .now) (length (a .out .now)) (a .path .now) found in
+    subst (λ (x : Given Bytes). Answers x (a .out .now) (m .describe-path .result) (m .describe-path .last .1 .1 .1 .0)) (sym same) (m .describe-path .ensures)
 
 same-length-2 : tie.Need-same-length-2
 same-length-2 c = search needs
@@ -77,8 +83,9 @@ returns-3 c =
     let e = m .before .before in
     let s = e .before .before .before .before .before .before .before .before in
     let a = s .args in
-    let found = subst (λ (w : Direction). Finds (a .b .now) (a .c .now) w (a .path .now)) (e .enum-told2 .given .1) (s .pre) in
-    subst (λ (x : Given Bytes). Answers x (a .out .now) (m .describe-path2 .result) (m .describe-path2 .last .1 .1 .1 .0)) (sym (told-backward (a .b .now) (a .c .now) (a .self-desc .now) (a .other-desc .now) (length (a .out .now)) (a .path .now) (found .0) (found .1))) (m .describe-path2 .ensures)
+    let found = found-as s _ (e .enum-told2 .given .1) in
+    let same = told-backward (a .b .now) (a .c .now) (a .self-desc .now) (a .other-desc .now) (length (a .out .now)) (a .path .now) (found .0) (found .1) in
+    subst (λ (x : Given Bytes). Answers x (a .out .now) (m .describe-path2 .result) (m .describe-path2 .last .1 .1 .1 .0)) (sym same) (m .describe-path2 .ensures)
 
 same-length-3 : tie.Need-same-length-3
 same-length-3 c = search needs
@@ -89,8 +96,9 @@ returns-4 c =
     let e = m .before .before in
     let s = e .before .before .before .before .before .before .before .before in
     let a = s .args in
-    let found = subst (λ (w : Direction). Finds (a .b .now) (a .c .now) w (a .path .now)) (e .enum-told3 .given .1) (s .pre) in
-    subst (λ (x : Given Bytes). Answers x (a .out .now) (m .describe-none .result) (m .describe-none .last .1 .1 .1 .1 .0)) (sym (told-neither (a .b .now) (a .c .now) (a .self-desc .now) (a .other-desc .now) (length (a .out .now)) (found .0) (found .1))) (m .describe-none .ensures)
+    let found = found-as s _ (e .enum-told3 .given .1) in
+    let same = told-neither (a .b .now) (a .c .now) (a .self-desc .now) (a .other-desc .now) (length (a .out .now)) (found .0) (found .1) in
+    subst (λ (x : Given Bytes). Answers x (a .out .now) (m .describe-none .result) (m .describe-none .last .1 .1 .1 .1 .0)) (sym same) (m .describe-none .ensures)
 
 pub describe-found-spec : {M : Type 1} → statement M
 describe-found-spec =

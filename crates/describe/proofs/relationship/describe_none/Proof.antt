@@ -1,5 +1,6 @@
 -- Refused for a long desc, then for want of room, else written.
 use native.Mathlib.Omega.{arith}
+use Rattle.model.specs.Bytes.{Bytes}
 use Rattle.model.specs.Numbers.{number}
 use Rattle.model.specs.Layout.{ownAt}
 use Rattle.model.specs.Describe.{describeNone}
@@ -9,14 +10,22 @@ use borrow.Author.Needs.{needs}
 use Rattle.describe.proofs.relationship.describe_none.Statement.{statement}
 use Rattle.describe.proofs.relationship.describe_none.Tie as tie
 
+-- the text that is measured and written
+abbrev written : tie.Start → Bytes
+written s =
+    let a = s .args in
+    describeNone (ownAt (a .b .now) (number (a .b .now) 2)) (ownAt (a .c .now) (number (a .c .now) 2)) (a .from .now) (a .to .now)
+
 short-requires : tie.Need-short-requires
 short-requires c κs = search needs
 
 returns : tie.Need-returns
 returns c =
     let k = c .before in
-    let a = k .before .before .before .before .before .before .args in
-    refused-answers _ (a .out .now) 18 (told-long (describeNone (ownAt (a .b .now) (number (a .b .now) 2)) (ownAt (a .c .now) (number (a .c .now) 2)) (a .from .now) (a .to .now)) (a .from .now) (a .to .now) _ (k .short .result) (k .short .ensures) (c .if1 .taken))
+    let s = k .before .before .before .before .before .before in
+    let a = s .args in
+    refused-answers _ (a .out .now) 18
+    (told-long (written s) (a .from .now) (a .to .now) _ (k .short .result) (k .short .ensures) (c .if1 .taken))
 
 none-length-requires : tie.Need-none-length-requires
 none-length-requires c κs =
@@ -28,9 +37,10 @@ returns-2 : tie.Need-returns-2
 returns-2 c =
     let n = c .before in
     let k = n .before .before in
-    let a = k .before .before .before .before .before .before .args in
+    let s = k .before .before .before .before .before .before in
+    let a = s .args in
     refused-answers _ (a .out .now) 17
-    (told-not (describeNone (ownAt (a .b .now) (number (a .b .now) 2)) (ownAt (a .c .now) (number (a .c .now) 2)) (a .from .now) (a .to .now)) (a .from .now) (a .to .now) _ (k .short .result) (k .short .ensures) (n .before .if1 .left) (omega (arith, n .none-length .ensures)))
+    (told-not (written s) (a .from .now) (a .to .now) _ (k .short .result) (k .short .ensures) (n .before .if1 .left) (omega (arith, n .none-length .ensures)))
 
 put-none-requires : tie.Need-put-none-requires
 put-none-requires c κs = search needs
@@ -43,10 +53,11 @@ returns-3 c =
     let p = c .before .before in
     let n = p .before .before .before in
     let k = n .before .before in
-    let a = k .before .before .before .before .before .before .args in
-    let t = describeNone (ownAt (a .b .now) (number (a .b .now) 2)) (ownAt (a .c .now) (number (a .c .now) 2)) (a .from .now) (a .to .now) in
-    wrote-answers _ (a .out .now) t (p .put-none .result) (p .put-none .last .0)
-    (told-all t (a .from .now) (a .to .now) _ (k .short .result) (k .short .ensures) (n .before .if1 .left) (omega (arith, n .none-length .ensures))) (p .put-none .ensures)
+    let s = k .before .before .before .before .before .before in
+    let a = s .args in
+    wrote-answers _ (a .out .now) (written s) (p .put-none .result) (p .put-none .last .0)
+    (told-all (written s) (a .from .now) (a .to .now) _ (k .short .result) (k .short .ensures) (n .before .if1 .left) (omega (arith, n .none-length .ensures)))
+    (p .put-none .ensures)
 
 pub describe-none-spec : {M : Type 1} → statement M
 describe-none-spec =

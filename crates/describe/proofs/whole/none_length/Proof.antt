@@ -32,7 +32,9 @@ add-result-3 : tie.Need-add-result-3
 add-result-3 c = search needs
 
 returns : tie.Need-returns
-returns c = let s = c .before .before .before .before .before .before .before .before in omega (arith, none-size (ownAt (s .args .b .now) (number (s .args .b .now) 2)) (ownAt (s .args .c .now) (number (s .args .c .now) 2)) (s .args .from .now) (s .args .to .now))
+returns c =
+    let a = c .before .before .before .before .before .before .before .before .args in
+    omega (arith, none-size (ownAt (a .b .now) (number (a .b .now) 2)) (ownAt (a .c .now) (number (a .c .now) 2)) (a .from .now) (a .to .now))
 
 pub none-length-spec : {M : Type 1} → statement M
 none-length-spec =

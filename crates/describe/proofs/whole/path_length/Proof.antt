@@ -33,7 +33,9 @@ add-result-3 : tie.Need-add-result-3
 add-result-3 c = search needs
 
 returns : tie.Need-returns
-returns c = let s = c .before .before .before .before .before .before .before .before in omega (arith, path-size (s .args .path .now) (s .args .entry) (s .args .body) (s .args .count) (s .args .last .now) (s .args .from .now) (s .args .to .now))
+returns c =
+    let a = c .before .before .before .before .before .before .before .before .args in
+    omega (arith, path-size (a .path .now) (a .entry) (a .body) (a .count) (a .last .now) (a .from .now) (a .to .now))
 
 pub path-length-spec : {M : Type 1} → statement M
 path-length-spec =

@@ -1,4 +1,7 @@
 -- Five texts, one behind the other.
+use lib.ListN.{length}
+use Prim.Native.Nat.{_+_, _≤_}
+use Rattle.model.specs.Bytes.{Bytes}
 use native.Mathlib.Omega.{arith}
 use Rattle.model.specs.Text.{text}
 use Rattle.model.specs.Numbers.{number}
@@ -10,23 +13,50 @@ use borrow.Author.Needs.{needs}
 use Rattle.describe.proofs.whole.put_none.Statement.{statement}
 use Rattle.describe.proofs.whole.put_none.Tie as tie
 
+-- what a record is called
+abbrev shownName : Bytes → Bytes
+shownName b = orNoName (ownAt b (number b 2))
+
+-- the room for all of them
+room : (s : tie.Start) → length (nameIsFor 1 (s .args .from .now)) + length (nameIsFor 2 (s .args .to .now)) + 18 + length (graphLine 1 (shownName (s .args .b .now)))
+    + length (graphLine 2 (shownName (s .args .c .now))) ≤ length (s .args .out .now)
+room s =
+    let a = s .args in
+    omega (arith, s .pre .2, none-size (ownAt (a .b .now) (number (a .b .now) 2)) (ownAt (a .c .now) (number (a .c .now) 2)) (a .from .now) (a .to .now))
+
+-- the start, from each call
+abbrev start1 : tie.After-put-name-arg → tie.Start
+start1 c = c .before .before .before .before .before .before
+
+abbrev start2 : tie.After-put-name-arg2 → tie.Start
+start2 c = start1 (c .before .before .before .before)
+
+abbrev start3 : tie.After-copy-arg2 → tie.Start
+start3 c = start2 (c .before .before .before .before .before)
+
+abbrev start4 : tie.After-put-own-arg → tie.Start
+start4 c = start3 (c .before .before .before .before)
+
+abbrev start5 : tie.After-put-own-arg2 → tie.Start
+start5 c = start4 (c .before .before .before .before)
+
 put-name-requires : tie.Need-put-name-requires
-put-name-requires c κs = let s = c .before .before .before .before .before .before in omega (arith, s .pre .2, none-size (ownAt (s .args .b .now) (number (s .args .b .now) 2)) (ownAt (s .args .c .now) (number (s .args .c .now) 2)) (s .args .from .now) (s .args .to .now))
+put-name-requires c κs = omega (arith, room (start1 c))
 
 put-name-requires-2 : tie.Need-put-name-requires-2
-put-name-requires-2 c κs = let s = c .before .before .before .before .before .before .before .before .before .before in omega (arith, s .pre .2, none-size (ownAt (s .args .b .now) (number (s .args .b .now) 2)) (ownAt (s .args .c .now) (number (s .args .c .now) 2)) (s .args .from .now) (s .args .to .now))
+put-name-requires-2 c κs = omega (arith, room (start2 c))
 
 slice-aggregate-copy : tie.Need-slice-aggregate-copy
 slice-aggregate-copy c = search needs
 
 copy-requires : tie.Need-copy-requires
-copy-requires c κs = let s = c .before .before .before .before .before .before .before .before .before .before .before .before .before .before .before in omega (arith, s .pre .2, none-size (ownAt (s .args .b .now) (number (s .args .b .now) 2)) (ownAt (s .args .c .now) (number (s .args .c .now) 2)) (s .args .from .now) (s .args .to .now))
+copy-requires c κs = omega (arith, room (start3 c))
 
 put-own-requires : tie.Need-put-own-requires
-put-own-requires c κs = let s = c .before .before .before .before .before .before .before .before .before .before .before .before .before .before .before .before .before .before .before in (s .pre .0, omega (arith, s .pre .2, none-size (ownAt (s .args .b .now) (number (s .args .b .now) 2)) (ownAt (s .args .c .now) (number (s .args .c .now) 2)) (s .args .from .now) (s .args .to .now)))
+put-own-requires c κs = (start4 c .pre .0, omega (arith, room (start4 c)))
 
 put-own-requires-2 : tie.Need-put-own-requires-2
-put-own-requires-2 c κs = let s = c .before .before .before .before .before .before .before .before .before .before .before .before .before .before .before .before .before .before .before .before .before .before .before in (s .pre .1, omega (arith, s .pre .2, none-size (ownAt (s .args .b .now) (number (s .args .b .now) 2)) (ownAt (s .args .c .now) (number (s .args .c .now) 2)) (s .args .from .now) (s .args .to .now)))
+put-own-requires-2 c κs = (start5 c .pre .1, omega (arith, room (start5 c)))
 
 same-length : tie.Need-same-length
 same-length c = search needs
@@ -40,7 +70,8 @@ returns c =
     let v = w .before .before .before .before in
     let s = v .before .before .before .before .before .before .before in
     let a = s .args in
-    wrote-five (a .out .now) 0 (nameIsFor 1 (a .from .now)) (nameIsFor 2 (a .to .now)) (text "With graph names:\n") (graphLine 1 (orNoName (ownAt (a .b .now) (number (a .b .now) 2)))) (graphLine 2 (orNoName (ownAt (a .c .now) (number (a .c .now) 2))))
+    wrote-five (a .out .now) 0 (nameIsFor 1 (a .from .now)) (nameIsFor 2 (a .to .now)) (text "With graph names:\n")
+    (graphLine 1 (shownName (a .b .now))) (graphLine 2 (shownName (a .c .now)))
     (v .put-name .result) (v .put-name .last .0) (w .put-name2 .result) (w .put-name2 .last .0) (x .copy .result) (x .copy .last .0)
     (y .put-own .result) (y .put-own .last .0) (z .put-own2 .result) (z .put-own2 .last .0)
     (omega (arith, s .pre .2)) (v .put-name .ensures) (w .put-name2 .ensures) (x .copy .ensures) (y .put-own .ensures) (z .put-own2 .ensures)

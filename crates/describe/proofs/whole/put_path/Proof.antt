@@ -4,7 +4,7 @@ use Rattle.model.specs.Text.{text}
 use mathlib.Core.Path.{sym, ap, subst}
 use Rattle.model.specs.Bytes.{Bytes}
 use Rattle.export.specs.Texts.{Wrote}
-use Prim.Native.Nat.{_+_}
+use Prim.Native.Nat.{_+_, _≤_}
 use lib.ListN.{length}
 use Rattle.model.specs.Describe.{nameIsFor, stepLines, graphLines}
 use Rattle.describe.specs.Legs.{legsAt}
@@ -14,26 +14,51 @@ use borrow.Author.Needs.{needs}
 use Rattle.describe.proofs.whole.put_path.Statement.{statement}
 use Rattle.describe.proofs.whole.put_path.Tie as tie
 
+-- the room for all of them
+room : (s : tie.Start) → length (nameIsFor 1 (s .args .from .now)) + length (stepLines 1 (legsAt (s .args .path .now) (s .args .entry) 0 (s .args .count)))
+    + length (nameIsFor (s .args .count + 1) (s .args .to .now)) + 18
+    + length (graphLines 1 (legsAt (s .args .path .now) (s .args .entry) (s .args .body) (s .args .count)) (s .args .last .now))
+    ≤ length (s .args .out .now)
+room s =
+    let a = s .args in
+    omega (arith, s .pre .1, path-size (a .path .now) (a .entry) (a .body) (a .count) (a .last .now) (a .from .now) (a .to .now))
+
+-- the start, from each call
+abbrev start1 : tie.After-put-name-arg → tie.Start
+start1 c = c .before .before .before .before .before .before
+
+abbrev start2 : tie.After-put-steps-arg → tie.Start
+start2 c = start1 (c .before .before .before .before)
+
+abbrev start3 : tie.After-put-name-arg2 → tie.Start
+start3 c = start2 (c .before .before .before .before)
+
+abbrev start4 : tie.After-copy-arg2 → tie.Start
+start4 c = start3 (c .before .before .before .before .before)
+
+abbrev start5 : tie.After-put-graphs-arg → tie.Start
+start5 c = start4 (c .before .before .before .before)
+
 put-name-requires : tie.Need-put-name-requires
-put-name-requires c κs = let s = c .before .before .before .before .before .before in omega (arith, s .pre .1, path-size (s .args .path .now) (s .args .entry) (s .args .body) (s .args .count) (s .args .last .now) (s .args .from .now) (s .args .to .now))
+put-name-requires c κs = omega (arith, room (start1 c))
 
 put-steps-requires : tie.Need-put-steps-requires
-put-steps-requires c κs = let s = c .before .before .before .before .before .before .before .before .before .before in (s .pre .0 .entries, omega (arith, s .pre .1, path-size (s .args .path .now) (s .args .entry) (s .args .body) (s .args .count) (s .args .last .now) (s .args .from .now) (s .args .to .now)))
+put-steps-requires c κs = (start2 c .pre .0 .entries, omega (arith, room (start2 c)))
 
 add-put-name : tie.Need-add-put-name
 add-put-name c = search needs
 
 put-name-requires-2 : tie.Need-put-name-requires-2
-put-name-requires-2 c κs = let s = c .before .before .before .before .before .before .before .before .before .before .before .before .before .before in omega (arith, s .pre .1, path-size (s .args .path .now) (s .args .entry) (s .args .body) (s .args .count) (s .args .last .now) (s .args .from .now) (s .args .to .now))
+put-name-requires-2 c κs = omega (arith, room (start3 c))
 
 slice-aggregate-copy : tie.Need-slice-aggregate-copy
 slice-aggregate-copy c = search needs
 
 copy-requires : tie.Need-copy-requires
-copy-requires c κs = let s = c .before .before .before .before .before .before .before .before .before .before .before .before .before .before .before .before .before .before .before in omega (arith, s .pre .1, path-size (s .args .path .now) (s .args .entry) (s .args .body) (s .args .count) (s .args .last .now) (s .args .from .now) (s .args .to .now))
+copy-requires c κs = omega (arith, room (start4 c))
 
 put-graphs-requires : tie.Need-put-graphs-requires
-put-graphs-requires c κs = let s = c .before .before .before .before .before .before .before .before .before .before .before .before .before .before .before .before .before .before .before .before .before .before .before in (s .pre .0, omega (arith, s .pre .1, path-size (s .args .path .now) (s .args .entry) (s .args .body) (s .args .count) (s .args .last .now) (s .args .from .now) (s .args .to .now)))
+put-graphs-requires c κs = (start5 c .pre .0, omega (arith, room (start5 c)))
 
 same-length : tie.Need-same-length
 same-length c = search needs
