@@ -11,7 +11,7 @@ use Rattle.export.specs.Texts.{pairTexts, nameSize, pairsSize, headerLin
 use Rattle.model.specs.Numbers.{number}
 use Rattle.model.specs.Layout.{ownAt, pairsFrom, shown}
 use Rattle.record.specs.Test.{subgraphAt, translationAt}
-use Rattle.model.specs.Writing.{pairLines, nameLine, moreRelations, toGfaHeaderLines, toGafHeaderLines}
+use Rattle.model.specs.Writing.{pairLines, nameLine, moreRelations}
 
 -- ------------------------------------------------------------------ pairs in any format
 
@@ -45,13 +45,9 @@ length-lines before between ps =
 pub length-relations : (ps : List Pair) → length (moreRelations ps) ≡ pairsSize 2 ps
 length-relations ps = rw (relations-texts ps, length-texts (59 ∷ []) 44 [] ps)
 
-pub length-gfa : (g : GraphName) → length (toGfaHeaderLines g) ≡ headerSize 8 9 g
-unfolding toGfaHeaderLines
-length-gfa g = simp (length-append, length-name-line, length-lines)
-
-pub length-gaf : (g : GraphName) → length (toGafHeaderLines g) ≡ headerSize 5 6 g
-unfolding toGafHeaderLines
-length-gaf g = simp (length-append, length-name-line, length-lines)
+pub length-header : (name subgraph translation : Bytes) (between : ℕ) (g : GraphName) → length translation ≡ length subgraph
+    → length (headerLines name subgraph translation between g) ≡ headerSize (length name + 1) (length subgraph + 2) g
+length-header name subgraph translation between g e = simp (length-append, length-name-line, length-lines, e)
 
 -- ------------------------------------------------------------------ the lines of a buffer
 

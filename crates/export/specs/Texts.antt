@@ -6,7 +6,9 @@ use Prim.Native.Nat.{ℕ, _+_}
 use lib.ListN.{length}
 use Rattle.model.specs.Bytes.{Bytes, put}
 use Rattle.model.specs.Record.{Pair, GraphName}
+use Rattle.model.specs.Questions.{Given, asked}
 use Rattle.model.specs.Writing.{nameLine, pairLines}
+use Rattle.model.specs.Written.{within}
 
 -- t is written at `at`: r is the place behind it, and o the output then
 abbrev pub Wrote : Bytes → ℕ → Bytes → ℕ → Bytes → Type 0
@@ -38,6 +40,10 @@ headerLines name subgraph translation between g =
 -- their size, with so many bytes beyond the own name and beyond the two names of a pair
 abbrev pub headerSize : ℕ → ℕ → GraphName → ℕ
 headerSize name pair g = nameSize name (g .name) + pairsSize pair (g .subgraph) + pairsSize pair (g .translation)
+
+-- what their writer gives, as `gfaWritten` and `gafWritten` of `model`
+abbrev pub linesWritten : Bytes → Bytes → Bytes → ℕ → Bytes → ℕ → Given Bytes
+linesWritten name subgraph translation between b room = within room (asked b (headerLines name subgraph translation between))
 
 -- the bytes of a tag's value; an absent one has none
 abbrev pub valueSize : Option Bytes → ℕ

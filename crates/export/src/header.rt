@@ -13,7 +13,7 @@ ghost use Rattle.model.specs.Numbers.{number};
 ghost use Rattle.model.specs.Layout.{ownAt, shown};
 ghost use Rattle.model.specs.Writing.{nameLine};
 ghost use Rattle.model.specs.Written.{gfaWritten, gafWritten};
-ghost use Rattle.export.specs.Texts.{Wrote, nameSize, headerLines, headerSize};
+ghost use Rattle.export.specs.Texts.{Wrote, nameSize, headerLines, headerSize, linesWritten};
 ghost use Rattle.export.specs.Places.{RecordIn};
 ghost use Rattle.export.specs.Answers.{Answers};
 
@@ -78,30 +78,38 @@ fn put_lines(
     put_pairs(out, q, b, second, t, translation, between, b"\n")
 }
 
-// Writes a record as GFA header lines.
-pub fn to_gfa_header_lines(b: &[u8], out: &mut [u8]) -> Written
-    ensures { λ r. ⌜ Answers (gfaWritten (now (b .entry)) (length (now (out .entry)))) (now (out .entry)) r (now (out .exit)) ⌝ }
+// Writes a record as header lines, by what stands before the own name and before a pair of each kind, and between two names.
+fn write_lines(
+    b: &[u8],
+    out: &mut [u8],
+    name: &[u8],
+    subgraph: &[u8],
+    translation: &[u8],
+    between: u8,
+) -> Written
+    requires { ⌜ (length (now name) ≤ 14) × (length (now subgraph) ≤ 14) × (length (now translation) ≡ length (now subgraph)) ⌝ }
+    ensures { λ r. ⌜ Answers (linesWritten (now (name .entry)) (now (subgraph .entry)) (now (translation .entry)) between (now (b .entry)) (length (now (out .entry)))) (now (out .entry)) r (now (out .exit)) ⌝ }
 {
     let wrong = record::fault(b);
     if wrong != 0 {
         return Written::Refused(wrong);
     }
-    if out.len() < lines_length(b, 8, 9) {
+    if out.len() < lines_length(b, name.len() + 1, subgraph.len() + 2) {
         return Written::Refused(17);
     }
-    Written::Wrote(put_lines(out, b, b"H\tNM:Z:", b"H\tSG:Z:", b"H\tTL:Z:", 44))
+    Written::Wrote(put_lines(out, b, name, subgraph, translation, between))
+}
+
+// Writes a record as GFA header lines.
+pub fn to_gfa_header_lines(b: &[u8], out: &mut [u8]) -> Written
+    ensures { λ r. ⌜ Answers (gfaWritten (now (b .entry)) (length (now (out .entry)))) (now (out .entry)) r (now (out .exit)) ⌝ }
+{
+    write_lines(b, out, b"H\tNM:Z:", b"H\tSG:Z:", b"H\tTL:Z:", 44)
 }
 
 // Writes a record as GAF header lines.
 pub fn to_gaf_header_lines(b: &[u8], out: &mut [u8]) -> Written
     ensures { λ r. ⌜ Answers (gafWritten (now (b .entry)) (length (now (out .entry)))) (now (out .entry)) r (now (out .exit)) ⌝ }
 {
-    let wrong = record::fault(b);
-    if wrong != 0 {
-        return Written::Refused(wrong);
-    }
-    if out.len() < lines_length(b, 5, 6) {
-        return Written::Refused(17);
-    }
-    Written::Wrote(put_lines(out, b, b"@RN\t", b"@SG\t", b"@TL\t", 9))
+    write_lines(b, out, b"@RN\t", b"@SG\t", b"@TL\t", 9)
 }

@@ -1,5 +1,6 @@
 // The pairs of a record as text: lines of either format, and the relations of a tag.
-use record::name_at;
+use record::bodies_at;
+use record::name_in;
 use text::copy;
 use text::put_byte;
 use text::read16;
@@ -15,12 +16,13 @@ pub fn pairs_length(b: &[u8], pairs: usize, count: usize, beyond: usize) -> usiz
     requires { ⌜ PairsIn (now b) pairs count × (beyond ≤ 16) ⌝ }
     ensures { λ r. ⌜ (r ≡ pairsSize beyond (pairsFrom (now (b .entry)) pairs count)) × (r < 4294967296) ⌝ }
 {
+    let bodies = bodies_at(b);
     let mut size = 0;
     let mut p = pairs;
     let mut left = count;
     while 0 < left {
-        let from = name_at(b, read16(b, p));
-        let to = name_at(b, read16(b, p + 2));
+        let from = name_in(b, bodies, read16(b, p));
+        let to = name_in(b, bodies, read16(b, p + 2));
         size += beyond + from.len() + to.len();
         p += 4;
         left -= 1;
@@ -63,12 +65,13 @@ pub fn put_pairs(
     requires { ⌜ PairsIn (now b) pairs count × (at + length (pairTexts (now before) between (now after) (pairsFrom (now b) pairs count)) ≤ length (now out)) ⌝ }
     ensures { λ r. ⌜ Wrote (now (out .entry)) at (pairTexts (now (before .entry)) between (now (after .entry)) (pairsFrom (now (b .entry)) pairs count)) r (now (out .exit)) ⌝ }
 {
+    let bodies = bodies_at(b);
     let mut q = at;
     let mut p = pairs;
     let mut left = count;
     while 0 < left {
-        let from = name_at(b, read16(b, p));
-        let to = name_at(b, read16(b, p + 2));
+        let from = name_in(b, bodies, read16(b, p));
+        let to = name_in(b, bodies, read16(b, p + 2));
         q = put_pair(out, q, before, from, between, to, after);
         p += 4;
         left -= 1;

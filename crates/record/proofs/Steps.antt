@@ -136,6 +136,24 @@ module _ (b : Bytes) (i : ℕ) where
   unfolding zeros
   zeros-more h e = rw (drop-cons b i 0 h, eq-eqb (getD b i 0) 0 e, add-one)
 
+zeros-drop : (k : ℕ) (l : Bytes) → zeros l ≡ true → zeros (drop k l) ≡ true
+unfolding zeros
+zeros-drop zero l e = e
+zeros-drop (suc k) [] e = e
+zeros-drop (suc k) (x ∷ xs) e = zeros-drop k xs (both-true (eqb x 0) (zeros xs) e .1)
+
+pub zeros-not : (l : Bytes) → _≡_ {A = Bool} false true → zeros l ≡ true
+zeros-not l e = absurd (let z : _≡_ {A = ℕ} 0 1 = cc in omega arith)
+
+-- the last n bytes are zero, and i is among them
+pub zeros-last : (b : Bytes) (i n : ℕ) (r : Bool) → n ≤ length b → length b - n ≤ i → (r ≡ true → zeros (drop (length b - n) b) ≡ zeros (drop (length b - n + n) b))
+    → r ≡ true → zeros (drop i b) ≡ true
+zeros-last b i n r h w so e =
+    let whole : zeros (drop (length b - n) b) ≡ true = so e ∙ zeros-end b (length b - n + n) (omega arith) in
+    let k : length b - n + (i - (length b - n)) ≡ i = omega arith in
+    let step = drop-drop (i - (length b - n)) (length b - n) b in
+    rw (← k, ← step) (zeros-drop (i - (length b - n)) (drop (length b - n) b) whole)
+
 -- a turn of the test of a block: with k zeros from `at` on, and the next byte zero as well
 pub zeros-turn : (b : Bytes) (at k : ℕ) (all : Bool) → at + k < length b
     → (all ≡ true → zeros (drop at b) ≡ zeros (drop (at + k) b)) → (all && eqb (getD b (at + k) 0) 0) ≡ true

@@ -32,15 +32,22 @@ pub fn part_at(b: &[u8], i: usize) -> Part
     Part { start, size }
 }
 
+// The name at place i, with the bodies from byte `bodies` on.
+pub fn name_in(b: &[u8], bodies: usize, i: usize) -> &[u8]
+    requires { ⌜ (length (now b) ≡ 32768) × (bodies ≡ bodiesAt (now b)) × (bodies < 786432) × (i < 8190) ⌝ }
+    ensures { λ r. ⌜ now r ≡ nameAt (now (b .entry)) i ⌝ }
+{
+    let start = bodies + read16(b, 8 + 4 * i);
+    let size = read16(b, 8 + 4 * i + 2);
+    text::part(b, start, size)
+}
+
 // The name at place i.
 pub fn name_at(b: &[u8], i: usize) -> &[u8]
     requires { ⌜ (length (now b) ≡ 32768) × (i < 8190) ⌝ }
     ensures { λ r. ⌜ now r ≡ nameAt (now (b .entry)) i ⌝ }
 {
-    let p = part_at(b, i);
-    let start = p.start;
-    let size = p.size;
-    text::part(b, start, size)
+    name_in(b, bodies_at(b), i)
 }
 
 // How many pairs of a kind there are.

@@ -20,6 +20,7 @@ pub use answer::pair_place;
 pub use layout::Part;
 pub use layout::bodies_at;
 pub use layout::name_at;
+pub use layout::name_in;
 pub use layout::pair_count;
 pub use layout::part_at;
 pub use layout::table_at;

@@ -168,12 +168,28 @@ fn skip_zeros(b: &[u8], at: usize) -> usize
     i
 }
 
+// Whether i is among the last 256 bytes and these are zero.
+fn zero_end(b: &[u8], i: usize) -> bool
+    ensures { λ r. ⌜ (r ≡ true → zeros (drop i (now (b .entry))) ≡ true) ⌝ }
+{
+    if b.len() < 256 {
+        return false;
+    }
+    if i < b.len() - 256 {
+        return false;
+    }
+    zero_block(b, b.len() - 256)
+}
+
 // Whether all bytes from `at` on are zero.
 pub(crate) fn zeros_from(b: &[u8], at: usize) -> bool
     requires { ⌜ at ≤ length (now b) ⌝ }
     ensures { λ r. ⌜ r ≡ zeros (drop at (now (b .entry))) ⌝ }
 {
     let mut i = skip_zeros(b, at);
+    if zero_end(b, i) {
+        return true;
+    }
     while i < b.len() {
         if b[i] != 0 {
             return false;

@@ -1,11 +1,11 @@
 -- A question by the numbers of names: its records can be built into tables, and the reply over the tables is the reply to it.
 use mathlib.Core.Path.{_≡_, refl, sym, _∙_}
 use mathlib.Core.Bool.{Bool, true, false}
-use mathlib.Core.List.{List}
+use mathlib.Core.List.{List, _++_}
 use mathlib.Core.Option.{some}
-use Prim.Native.Nat.{ℕ, _≤_, _<_}
+use Prim.Native.Nat.{ℕ, _+_, _-_, _≤_, _<_}
 use native.Mathlib.Omega.{arith}
-use lib.ListN.{length, take, getD}
+use lib.ListN.{length, take, drop, getD, length-append, length-drop}
 use lib.Seq.{length-take-le, getD-take}
 use Rattle.model.specs.declared.Kind.{Kind}
 use Rattle.model.specs.declared.Kind.the-variants.{Subgraph, Translation}
@@ -21,7 +21,8 @@ use Rattle.paths.specs.Tables.{edges, Graph, graph, Holds}
 use Rattle.search.specs.Names.{naming, nameOf}
 use Rattle.search.specs.Keys.{Buildable, KindBuilt, TranslationsBuilt}
 use Rattle.search.specs.Replies.{Askable, RepliesRight}
-use Rattle.search.specs.Union.{Numbered, Numberable, Questioned, relationsOf, RepliesTo, Named, RepliesFrom}
+use Rattle.search.specs.Union.{Numbered, Numberable, Questioned, relationsOf, RepliesTo, Named, RepliesFrom, Owned, RepliesOwn}
+use Rattle.search.specs.Room.{PairsWithin, Within}
 use Rattle.search.proofs.Sides.{record-rise, union-order, side-first, side-second, record-sorted}
 use Rattle.search.proofs.Holding.{holds-full, holds-subgraph}
 
@@ -30,37 +31,34 @@ few-pairs b g e Subgraph = decode-held b g e .subgraphs
 few-pairs b g e Translation = decode-held b g e .translations
 
 module _ (b c : Bytes) (firsts seconds ones twos : List ℕ) (a e : ℕ) (q : Questioned b c firsts seconds ones twos a e) where
-  pub buildable : (k : Kind) (starts ends targets : List ℕ) → length starts ≡ 1024 → length ends ≡ 1024 → length targets ≡ 2048
-      → Buildable b c k ones twos (take (length firsts) starts) (take (length firsts) ends) targets
-  buildable k starts ends targets x y z =
-      let s : length (take (length firsts) starts) ≡ length firsts = length-take-le (length firsts) starts (omega (arith, q .few)) in
-      let t : length (take (length firsts) ends) ≡ length firsts = length-take-le (length firsts) ends (omega (arith, q .few)) in
+  pub buildable : (k : Kind) (rows keys starts ends targets : List ℕ) (pairs : ℕ) → PairsWithin b c pairs → length rows ≡ pairs → length keys ≡ pairs → length targets ≡ pairs
+      → length starts ≡ length firsts → length ends ≡ length firsts → Buildable b c k ones twos rows keys starts ends targets
+  buildable k rows keys starts ends targets pairs within x y z s t =
       let small : length firsts ≤ 65536 = omega (arith, q .few) in
       record {
         first-size = decode-held b (q .g) (q .first) .long;
         second-size = decode-held c (q .h) (q .second) .long;
         first-sorted = rw s (record-sorted b (q .g) (q .first) (length firsts) ones (nameOf (naming b c firsts seconds)) (q .one) (q .order) small k);
         second-sorted = rw s (record-sorted c (q .h) (q .second) (length firsts) twos (nameOf (naming b c firsts seconds)) (q .two) (q .order) small k);
-        first-few = few-pairs b (q .g) (q .first) k;
-        second-few = few-pairs c (q .h) (q .second) k;
+        few = omega (arith, few-pairs b (q .g) (q .first) k, few-pairs c (q .h) (q .second) k);
+        rows-room = omega (arith, within k);
+        keys-room = omega (arith, within k);
+        targets-room = omega (arith, within k);
         ends-size = t ∙ sym s;
-        targets-size = z;
         small = omega arith;
       }
 
-  module _ (full : Bool) (size : ℕ) (is : size ≡ length firsts) (starts ends targets starts′ ends′ targets′ : List ℕ) (k l : ℕ)
+  module _ (full : Bool) (size size′ : ℕ) (is : size ≡ length firsts) (is′ : size′ ≡ length firsts) (starts ends targets starts′ ends′ targets′ : List ℕ) (k l : ℕ)
       (subgraphs : KindBuilt b c Subgraph ones twos size starts ends targets k)
-      (translations : TranslationsBuilt full b c ones twos size starts′ ends′ targets′ l)
-      (ss es ss′ es′ : List ℕ) (e1 : ss ≡ starts) (e2 : es ≡ ends) (e3 : ss′ ≡ starts′) (e4 : es′ ≡ ends′) where
+      (translations : TranslationsBuilt full b c ones twos size′ starts′ ends′ targets′ l) where
     abbrev tables : Graph
-    tables = graph (edges ss es (take k targets)) (edges ss′ es′ (take l targets′))
+    tables = graph (edges starts ends (take k targets)) (edges starts′ ends′ (take l targets′))
 
     pub askable : Askable (naming b c firsts seconds) tables (length firsts) a e
     askable = record {
       readable = q .readable;
-      subgraphs = rw (e1, e2, ← is) (subgraphs .made);
-      translations = rw (e3, e4, ← is) (translations .made);
-      few = q .few;
+      subgraphs = rw (← is) (subgraphs .made);
+      translations = rw (← is′) (translations .made);
       from = q .from;
       to = q .to;
     }
@@ -71,19 +69,19 @@ module _ (b c : Bytes) (firsts seconds ones twos : List ℕ) (a e : ℕ) (q : Qu
         small : length firsts ≤ 65536
         small = omega (arith, q .few)
 
-        sized : length ss ≡ length firsts
-        sized = rw e1 (subgraphs .made .starts ∙ is)
+        sized : length starts ≡ length firsts
+        sized = subgraphs .made .starts ∙ is
 
-        sized′ : length ss′ ≡ length firsts
-        sized′ = rw e3 (translations .made .starts ∙ is)
+        sized′ : length starts′ ≡ length firsts
+        sized′ = translations .made .starts ∙ is′
 
         go : (t : Bool) → full ≡ t → Holds tables (length firsts) (nameOf (naming b c firsts seconds)) (relationsOf t g h)
         go true w =
             holds-full b g d c h f (length firsts) ones twos (nameOf (naming b c firsts seconds)) (q .one) (q .two) (q .order) small
-            (edges ss es (take k targets)) (edges ss′ es′ (take l targets′)) sized (rw (e1, e2) (subgraphs .built)) sized′ (rw (e3, e4) (translations .built w))
+            (edges starts ends (take k targets)) (edges starts′ ends′ (take l targets′)) sized (subgraphs .built) sized′ (translations .built w)
         go false w =
             holds-subgraph b g d c h f (length firsts) ones twos (nameOf (naming b c firsts seconds)) (q .one) (q .two) (q .order) small
-            (edges ss es (take k targets)) (edges ss′ es′ (take l targets′)) sized (rw (e1, e2) (subgraphs .built)) (rw (e3, e4, ← is) (translations .none w))
+            (edges starts ends (take k targets)) (edges starts′ ends′ (take l targets′)) sized (subgraphs .built) (rw (← is′) (translations .none w))
 
     pub replies-to : (out o : Bytes) (r : Reply) → RepliesRight (naming b c firsts seconds) tables (length firsts) a e out r o
         → RepliesTo full b c (naming b c firsts seconds) a e out r o
@@ -92,7 +90,7 @@ module _ (b c : Bytes) (firsts seconds ones twos : List ℕ) (a e : ℕ) (q : Qu
 -- ------------------------------------------------------------------ by the places of names
 
 module _ (b c : Bytes) (p q : ℕ) (named : Named b c p q) where
-  pub numberable : (firsts seconds ones twos : List ℕ) → length firsts ≡ 1024 → length seconds ≡ 1024 → length ones ≡ 512 → length twos ≡ 512
+  pub numberable : (firsts seconds ones twos : List ℕ) → number b 0 + number c 0 ≤ length firsts → length seconds ≡ length firsts → length ones ≡ length firsts → length twos ≡ length firsts
       → Numberable b c (number b 0) (number c 0) firsts seconds ones twos
   numberable firsts seconds ones twos w x y z =
       let d = decode-held b (named .g) (named .first) in
@@ -104,25 +102,22 @@ module _ (b c : Bytes) (p q : ℕ) (named : Named b c p q) where
         second-few = e .count;
         first-rise = record-rise b (named .g) (named .first);
         second-rise = record-rise c (named .h) (named .second);
-        firsts-room = omega (arith, d .count, e .count);
-        seconds-room = omega (arith, d .count, e .count);
-        ones-room = omega (arith, d .count);
-        twos-room = omega (arith, e .count);
+        firsts-room = w;
+        seconds-room = omega arith;
+        ones-room = omega arith;
+        twos-room = omega arith;
       }
 
   module _ (firsts seconds ones twos : List ℕ) (v : ℕ) (t : Numbered b c firsts seconds ones twos (number b 0) (number c 0) v)
-      (lf : length firsts ≡ 1024) (ls : length seconds ≡ 1024) (lo : length ones ≡ 512) (lt : length twos ≡ 512) where
+      (lf : number b 0 + number c 0 ≤ length firsts) (ls : length seconds ≡ length firsts) (lo : length ones ≡ length firsts) (lt : length twos ≡ length firsts) where
     d : Held b
     d = decode-held b (named .g) (named .first)
 
     e : Held c
     e = decode-held c (named .h) (named .second)
 
-    few : v ≤ 1024
-    few = omega (arith, t .few, d .count, e .count)
-
     first-long : length (take v firsts) ≡ v
-    first-long = length-take-le v firsts (omega (arith, few))
+    first-long = length-take-le v firsts (omega (arith, t .few))
 
     pub questioned : Questioned b c (take v firsts) (take v seconds) (take (number b 0) ones) (take (number c 0) twos) (getD ones p 0) (getD twos q 0)
     questioned = record {
@@ -134,7 +129,7 @@ module _ (b c : Bytes) (p q : ℕ) (named : Named b c p q) where
         first-size = d .long;
         second-size = e .long;
         firsts-size = first-long;
-        seconds-size = length-take-le v seconds (omega (arith, few));
+        seconds-size = length-take-le v seconds (omega (arith, t .few));
         in-first = λ u l. rw (getD-take v firsts u 0 l) (omega (arith, t .firsts-in u l, d .count));
         in-second = λ u l. rw (getD-take v seconds u 0 l) (omega (arith, t .seconds-in u l, e .count));
         held = λ u l. rw (getD-take v firsts u 0 l, getD-take v seconds u 0 l) (t .held u l);
@@ -142,7 +137,7 @@ module _ (b c : Bytes) (p q : ℕ) (named : Named b c p q) where
       one = rw first-long (side-first b c firsts seconds ones twos (number b 0) (number c 0) v t (omega (arith, d .count)));
       two = rw first-long (side-second b c firsts seconds ones twos (number b 0) (number c 0) v t (omega (arith, e .count)));
       order = rw first-long (union-order b c firsts seconds ones twos (number b 0) (number c 0) v t);
-      few = rw first-long few;
+      few = rw first-long (omega (arith, t .few, d .count, e .count));
       from = rw first-long (t .ones-in p (named .from) .0);
       to = rw first-long (t .twos-in q (named .to) .0);
     }
@@ -156,29 +151,61 @@ module _ (b c : Bytes) (p q : ℕ) (named : Named b c p q) where
         let j : nameOf (naming b c (take v firsts) (take v seconds)) (getD twos q 0) ≡ nameAt c q = rw (getD-take (number c 0) twos q 0 (named .to)) at n in
         rw (i, j) at (right g h x y)
 
--- with the counts of names as the code has read them
-module _ (b c : Bytes) (p q : ℕ) (named : Named b c p q) (m n : ℕ) (em : m ≡ number b 0) (en : n ≡ number c 0) where
-  pub numberable-read : (firsts seconds ones twos : List ℕ) → length firsts ≡ 1024 → length seconds ≡ 1024 → length ones ≡ 512 → length twos ≡ 512
-      → Numberable b c m n firsts seconds ones twos
-  numberable-read firsts seconds ones twos w x y z = rw (em, en) (numberable b c p q named firsts seconds ones twos w x y z)
+-- with the counts of names as the code has read them, and the own places
+module _ (b c : Bytes) (owned : Owned b c) (m n : ℕ) (em : m ≡ number b 0) (en : n ≡ number c 0) (firsts seconds ones twos : List ℕ)
+    (lf : number b 0 + number c 0 ≤ length firsts) (ls : length seconds ≡ length firsts) (lo : length ones ≡ length firsts) (lt : length twos ≡ length firsts) where
+  pub numberable-read : Numberable b c m n firsts seconds ones twos
+  numberable-read = rw (em, en) (numberable b c (number b 2 - 1) (number c 2 - 1) (owned .named) firsts seconds ones twos lf ls lo lt)
 
-  -- how many there are
-  pub counts-read : (m ≤ 512) × (n ≤ 512) × (p < m) × (q < n)
-  counts-read = (
-    rw em (decode-held b (named .g) (named .first) .count),
-    rw en (decode-held c (named .h) (named .second) .count),
-    rw em (named .from),
-    rw en (named .to),
-  )
-
-  module _ (firsts seconds ones twos : List ℕ) (v : ℕ) (t : Numbered b c firsts seconds ones twos m n v)
-      (lf : length firsts ≡ 1024) (ls : length seconds ≡ 1024) (lo : length ones ≡ 512) (lt : length twos ≡ 512) where
+  module _ (v : ℕ) (t : Numbered b c firsts seconds ones twos m n v) where
     exact : Numbered b c firsts seconds ones twos (number b 0) (number c 0) v
     exact = rw (em, en) at t
 
-    pub questioned-read : Questioned b c (take v firsts) (take v seconds) (take m ones) (take n twos) (getD ones p 0) (getD twos q 0)
-    questioned-read = rw (em, en) (questioned b c p q named firsts seconds ones twos v exact lf ls lo lt)
+    module _ (p q : ℕ) (ep : p ≡ number b 2) (eq : q ≡ number c 2) where
+      pub questioned-read : Questioned b c (take v firsts) (take v seconds) (take m ones) (take n twos) (getD ones (p - 1) 0) (getD twos (q - 1) 0)
+      questioned-read = rw (em, en, ep, eq) (questioned b c (number b 2 - 1) (number c 2 - 1) (owned .named) firsts seconds ones twos v exact lf ls lo lt)
 
-    pub replies-read : (full : Bool) (out o : Bytes) (r : Reply) → RepliesTo full b c (naming b c (take v firsts) (take v seconds)) (getD ones p 0) (getD twos q 0) out r o
-        → RepliesFrom full b c p q out r o
-    replies-read full out o r right = replies-from b c p q named firsts seconds ones twos v exact lf ls lo lt full out o r right
+      pub replies-read : (full : Bool) (out o : Bytes) (r : Reply) → RepliesTo full b c (naming b c (take v firsts) (take v seconds)) (getD ones (p - 1) 0) (getD twos (q - 1) 0) out r o
+          → RepliesOwn full b c out r o
+      replies-read full out o r right = replies-from b c (number b 2 - 1) (number c 2 - 1) (owned .named) firsts seconds ones twos v exact lf ls lo lt full out o r (rw (ep, eq) at right)
+
+-- ------------------------------------------------------------------ how large two records are
+
+-- how many names two records have, and where their own names are among them
+pub record Counted (b c : Bytes) : Type 0 where
+  pub first-few : number b 0 ≤ 512
+  pub second-few : number c 0 ≤ 512
+  pub from : number b 2 - 1 < number b 0
+  pub to : number c 2 - 1 < number c 0
+
+pub counted : (b c : Bytes) → Owned b c → Counted b c
+counted b c o = record {
+  first-few = decode-held b (o .named .g) (o .named .first) .count;
+  second-few = decode-held c (o .named .h) (o .named .second) .count;
+  from = o .named .from;
+  to = o .named .to;
+}
+
+-- the large tables have room for any two records
+pub within-large : (b c : Bytes) → Owned b c → Within b c 1024 2048
+within-large b c o = record {
+  names-fit = let z = counted b c o in omega (arith, z .first-few, z .second-few);
+  pairs-fit = λ k. omega (arith, few-pairs b (o .named .g) (o .named .first) k, few-pairs c (o .named .h) (o .named .second) k);
+}
+
+pub within-not : (b c : Bytes) → _≡_ {A = Bool} false true → Within b c 256 256
+within-not b c e = absurd (let z : _≡_ {A = ℕ} 0 1 = cc in omega arith)
+
+pub within-small : (b c : Bytes) (names pairs : ℕ) → number b 0 + number c 0 ≤ names → number b 4 + number c 4 ≤ pairs → number b 6 + number c 6 ≤ pairs → Within b c names pairs
+within-small b c names pairs x y z = record {
+  names-fit = x;
+  pairs-fit = go;
+}
+  where
+    go : PairsWithin b c pairs
+    go Subgraph = y
+    go Translation = z
+
+-- the front of a table given back
+pub front-back : (p l : List ℕ) (v : ℕ) → v ≤ length l → length p ≡ length (take v l) → length (p ++ drop v l) ≡ length l
+front-back p l v w e = length-append p (drop v l) ∙ rw (e, length-take-le v l w, length-drop v l) (omega arith)

@@ -18,7 +18,7 @@ use Rattle.record.proofs.Laws.{decode-held}
 use Rattle.record.proofs.Access.{record-own}
 use Rattle.search.specs.declared.Reply.{Reply}
 use Rattle.search.specs.Replies.{Replies}
-use Rattle.search.specs.Union.{relationsOf, Named, RepliesFrom, askOf}
+use Rattle.search.specs.Union.{relationsOf, Owned, RepliesOwn, askOf}
 
 module _ (b c : Bytes) (room : ℕ) where
   -- a fault refuses the question
@@ -89,18 +89,22 @@ module _ (b c : Bytes) (room : ℕ) (g h : GraphName) (d : decode b ≡ some g) 
 
 -- with the own places as the code has read them
 module _ (b c : Bytes) (f : Faultless b c) (own other : ℕ) (eo : own ≡ number b 2) (et : other ≡ number c 2) (no : own ≡ 0 → ⊥) (nt : other ≡ 0 → ⊥) where
-  pub named-read : Named b c (own - 1) (other - 1)
-  named-read = record {
-    g = f .g;
-    h = f .h;
-    first = f .first;
-    second = f .second;
-    from = omega (arith, decode-held b (f .g) (f .first) .own, no);
-    to = omega (arith, decode-held c (f .h) (f .second) .own, nt);
+  pub owned-read : Owned b c
+  owned-read = record {
+    own = omega (arith, no);
+    other = omega (arith, nt);
+    named = record {
+      g = f .g;
+      h = f .h;
+      first = f .first;
+      second = f .second;
+      from = omega (arith, decode-held b (f .g) (f .first) .own, no);
+      to = omega (arith, decode-held c (f .h) (f .second) .own, nt);
+    };
   }
 
-  pub ask-read : (full : Bool) (out o : Bytes) (r : Reply) → RepliesFrom full b c (own - 1) (other - 1) out r o → Replies (askOf full b c (length out)) out r o
+  pub ask-read : (full : Bool) (out o : Bytes) (r : Reply) → RepliesOwn full b c out r o → Replies (askOf full b c (length out)) out r o
   ask-read full out o r right =
-      let x : number b 2 ≡ suc (own - 1) = omega (arith, no) in
-      let y : number c 2 ≡ suc (other - 1) = omega (arith, nt) in
-      rw (ask-between b c (length out) (f .g) (f .h) (f .first) (f .second) full (own - 1) (other - 1) x y) (right (f .g) (f .h) (f .first) (f .second))
+      let x : number b 2 ≡ suc (number b 2 - 1) = omega (arith, no) in
+      let y : number c 2 ≡ suc (number c 2 - 1) = omega (arith, nt) in
+      rw (ask-between b c (length out) (f .g) (f .h) (f .first) (f .second) full (number b 2 - 1) (number c 2 - 1) x y) (right (f .g) (f .h) (f .first) (f .second))

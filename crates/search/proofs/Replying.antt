@@ -3,10 +3,9 @@ use mathlib.Core.Path.{_≡_, refl, sym, _∙_}
 use mathlib.Core.Bool.{Bool, true, false}
 use mathlib.Core.List.{List}
 use mathlib.Core.Option.{some, none}
-use Prim.Native.Nat.{ℕ}
+use Prim.Native.Nat.{ℕ, _<_}
 use native.Mathlib.Omega.{arith}
-use lib.ListN.{length, take, getD}
-use lib.Seq.{length-take-le}
+use lib.ListN.{length, getD}
 use lib.Dec.{leb}
 use Rattle.model.specs.Bytes.{Bytes}
 use Rattle.model.specs.Path.{Relations, bestPath, pathBytes}
@@ -15,27 +14,21 @@ use Rattle.search.specs.declared.Reply.the-variants.{Refused, No, Yes}
 use Rattle.paths.specs.declared.Place.{Place}
 use Rattle.paths.specs.declared.Place.the-variants.{Found, NotFound}
 use Rattle.paths.specs.Tables.{Graph, Holds}
-use Rattle.paths.specs.Queue.{queued, Searchable, Reached, Kinds, Told, walk}
+use Rattle.paths.specs.Queue.{queued, Room, Searchable, Reached, Kinds, Told, walk}
 use Rattle.search.specs.Names.{Names, nameOf, pathBack, startName, Readback}
 use Rattle.search.specs.Replies.{Askable, RepliesRight}
 
--- ------------------------------------------------------------------ tables in front of longer ones
+-- ------------------------------------------------------------------ tables for the search
 
 pub searchable : (ns : Names) (G : Graph) (n a b : ℕ) (nodes parents kinds places : List ℕ) → Askable ns G n a b
-    → length nodes ≡ 1024 → length parents ≡ 1024 → length kinds ≡ 1024 → length places ≡ 1024
-    → Searchable G a b (queued (take n nodes) (take n parents) (take n kinds) (take n places) 0)
-searchable ns G n a b nodes parents kinds places q w x y z =
-    let e = length-take-le n nodes (omega (arith, q .few)) in
-    let f = length-take-le n parents (omega (arith, q .few)) in
-    let g = length-take-le n kinds (omega (arith, q .few)) in
-    let h = length-take-le n places (omega (arith, q .few)) in
-    record {
-      subgraphs = rw h (q .subgraphs);
-      translations = rw h (q .translations);
-      room = record { nodes = omega arith; parents = omega arith; kinds = omega arith; small = omega (arith, q .few) };
-      from = omega (arith, q .from);
-      to = omega (arith, q .to);
-    }
+    → Room (queued nodes parents kinds places 0) × (length places ≡ n) → Searchable G a b (queued nodes parents kinds places 0)
+searchable ns G n a b nodes parents kinds places q r = record {
+  subgraphs = rw (r .1) (q .subgraphs);
+  translations = rw (r .1) (q .translations);
+  room = r .0;
+  from = omega (arith, q .from, r .1);
+  to = omega (arith, q .to, r .1);
+}
 
 module _ (ns : Names) (G : Graph) (n a b : ℕ) (q : Askable ns G n a b) (size : ℕ) (is : size ≡ n) where
   pub reply-no : (nodes parents kinds : List ℕ) (out : Bytes) (p : Place) → Told G size a b nodes parents kinds p → p ≡ NotFound → RepliesRight ns G n a b out No out
@@ -51,12 +44,12 @@ module _ (ns : Names) (G : Graph) (n a b : ℕ) (q : Askable ns G n a b) (size :
     reached : Reached n a b ys ps ks j
     reached = rw is at (told .0)
 
-    pub found-back : length ys ≡ n → Readback ns nodes parents j × Kinds kinds j
+    pub found-back : length ys < 65536 → Readback ns nodes parents j × Kinds kinds j
     found-back l = rw (en, ep, ek) (
       record {
         readable = rw (q .readable .firsts-size) (q .readable);
         back = rw (q .readable .firsts-size) (reached .back);
-        small = omega (arith, reached .back .nodes-long, q .few);
+        small = omega (arith, reached .back .nodes-long);
       },
       reached .kind-steps,
     )

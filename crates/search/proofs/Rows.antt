@@ -1,18 +1,18 @@
 -- The table of steps of one kind, from the merged and indexed keys of two records.
-use mathlib.Core.Path.{_≡_, refl, _∙_}
+use mathlib.Core.Path.{_≡_, refl, sym, ap, _∙_}
 use mathlib.Core.Logic.{inl, inr, ⊎-elim}
 use mathlib.Core.Bool.{Bool, true, false}
-use mathlib.Core.List.{List, _++_}
-use Prim.Native.Nat.{ℕ, _+_, _*_, _/_, _%_, _≤_, _<_}
+use mathlib.Core.List.{List, _++_, append-nil}
+use Prim.Native.Nat.{ℕ, _+_, _-_, _*_, _/_, _%_, _≤_, _<_}
 use native.Mathlib.Omega.{arith}
-use lib.ListN.{length, take, getD}
-use lib.Seq.{length-take-le, take-at}
+use lib.ListN.{length, take, drop, getD, length-append, length-take, length-drop}
+use lib.Seq.{length-take-le, take-at, drop-at, take-length, drop-length}
 use Rattle.model.specs.declared.Kind.{Kind}
 use Rattle.model.specs.declared.Kind.the-variants.{Translation}
 use Rattle.model.specs.Bytes.{Bytes}
 use Rattle.model.specs.Numbers.{number}
 use Rattle.record.specs.Test.{pairCount, tableAt}
-use Rattle.paths.specs.Tables.{edges, Leaves, Made}
+use Rattle.paths.specs.Tables.{Edges, edges, Leaves, Made}
 use Rattle.search.specs.Keys.{keyAt, Rises, Among, Merged, Indexed, Leads, Built, Sorted, Roomy, Buildable, KindBuilt, TranslationsBuilt}
 
 -- the keys as they were read
@@ -89,24 +89,55 @@ module _ (b : Bytes) (s : ℕ) (ones : List ℕ) (c : Bytes) (t : ℕ) (twos : L
           let q : getD keys (k .at) 0 / 65536 ≡ v = omega (arith, k .is) in
           (k .at, indexed .all v (k .at) l (k .lt) q, omega (arith, split (k .at) (omega (arith, k .lt)), k .is))
 
+pub built-as : (b : Bytes) (s : ℕ) (ones : List ℕ) (x : ℕ) (c : Bytes) (t : ℕ) (twos : List ℕ) (y : ℕ) (es : Edges) (m n : ℕ) → x ≡ m → y ≡ n → Built b s ones x c t twos y es → Built b s ones m c t twos n es
+built-as b s ones x c t twos y es m n e f r = rw (e, f) at r
+
 -- ------------------------------------------------------------------ in the front of longer tables
 
+-- what is lent from place m on
+behind-is : (m : ℕ) (l : List ℕ) → take (length l - m) (drop m l) ≡ drop m l
+behind-is m l = ap (λ (n : ℕ). take n (drop m l)) (sym (length-drop m l)) ∙ take-length (drop m l)
+
+pub parts-ready : (m : ℕ) (l out : List ℕ) → (m ≤ length l) × Rises (take m l) × Rises (drop m l) × (length out ≡ length l)
+    → Rises (take m l) × Rises (take (length l - m) (drop m l)) × (length out ≡ length (take m l) + length (take (length l - m) (drop m l)))
+parts-ready m l out r = rw (behind-is m l) (r .1, r .2, r .3 ∙ simp (length-take, length-drop) (omega (arith, r .0)))
+
+pub parts-merged : (m : ℕ) (l out : List ℕ) → Merged (take m l) (take (length l - m) (drop m l)) out → Merged (take m l) (drop m l) out
+parts-merged m l out r = rw (behind-is m l) at r
+
+-- a row read into the front of a table, and another behind it
+module _ (a l : List ℕ) (m : ℕ) (e : length a ≡ m) where
+  pub back-size : length (take (length (a ++ drop m l) - m) (drop m (a ++ drop m l))) ≡ length l - m
+  back-size = rw (behind-is m (a ++ drop m l), drop-at a (drop m l) m e) (length-drop m l)
+
+  pub both-rows : (d : List ℕ) → take m (a ++ drop m l) ++ (d ++ drop (length (a ++ drop m l) - m) (drop m (a ++ drop m l))) ≡ a ++ d
+  both-rows d =
+      let n : length (a ++ drop m l) - m ≡ length (drop m l) = simp length-append (omega (arith, e)) in
+      rw (take-at a (drop m l) m e, drop-at a (drop m l) m e, n, drop-length (drop m l)) (simp append-nil)
+
+module _ (l a d : List ℕ) (m : ℕ) (is : l ≡ a ++ d) (e : length a ≡ m) where
+  pub merge-ready : (keys : List ℕ) → Rises a → Rises d → length keys ≡ length a + length d → (m ≤ length l) × Rises (take m l) × Rises (drop m l) × (length keys ≡ length l)
+  merge-ready keys x y z = rw (is, take-at a d m e, drop-at a d m e) (simp length-append (omega (arith, e)), x, y, z ∙ simp length-append)
+
+  pub merged-rows : (keys : List ℕ) → Merged (take m l) (drop m l) keys → Merged a d keys
+  merged-rows keys r = rw (is, take-at a d m e, drop-at a d m e) at r
+
 -- as many keys of each as there are pairs
-pub rows-ready : (b c : Bytes) (k : Kind) (ones twos a d keys starts ends targets : List ℕ) (m n s t : ℕ) → Buildable b c k ones twos starts ends targets
+pub rows-ready : (b c : Bytes) (k : Kind) (ones twos rows keys starts ends targets : List ℕ) (m n s t : ℕ) → Buildable b c k ones twos rows keys starts ends targets
     → m ≡ pairCount k b → n ≡ pairCount k c → s ≡ tableAt k b → t ≡ tableAt k c
-    → length a ≡ 1024 → length d ≡ 1024 → length keys ≡ 2048
-    → Sorted b s ones (length (take m a)) (length starts) × Sorted c t twos (length (take n d)) (length starts)
-    × Roomy (length starts) (take m a) (take n d) (take (m + n) keys) starts ends (take (m + n) targets)
-rows-ready b c k ones twos a d keys starts ends targets m n s t r em en es et la ld lk =
-    let x : length (take m a) ≡ m = length-take-le m a (omega (arith, r .first-few)) in
-    let y : length (take n d) ≡ n = length-take-le n d (omega (arith, r .second-few)) in
-    let z : length (take (m + n) keys) ≡ m + n = length-take-le (m + n) keys (omega (arith, r .first-few, r .second-few)) in
-    let w : length (take (m + n) targets) ≡ m + n = length-take-le (m + n) targets (omega (arith, r .first-few, r .second-few, r .targets-size)) in (
-      rw (x, em, es) (r .first-sorted),
+    → Sorted b s ones m (length starts) × Sorted c t twos (length (take (m + n) rows) - m) (length starts)
+    × Roomy (length starts) m (take (m + n) rows) (take (m + n) keys) starts ends (take (m + n) targets)
+rows-ready b c k ones twos rows keys starts ends targets m n s t r em en es et =
+    let x : length (take (m + n) rows) ≡ m + n = length-take-le (m + n) rows (omega (arith, r .rows-room)) in
+    let y : length (take (m + n) rows) - m ≡ n = omega arith in
+    let z : length (take (m + n) keys) ≡ m + n = length-take-le (m + n) keys (omega (arith, r .keys-room)) in
+    let w : length (take (m + n) targets) ≡ m + n = length-take-le (m + n) targets (omega (arith, r .targets-room)) in (
+      rw (em, es) (r .first-sorted),
       rw (y, en, et) (r .second-sorted),
       record {
+        front = omega arith;
         merged = omega arith;
-        few = omega (arith, r .first-few, r .second-few);
+        few = omega (arith, r .few);
         targets-size = omega arith;
         starts-size = refl;
         ends-size = r .ends-size;
@@ -114,17 +145,18 @@ rows-ready b c k ones twos a d keys starts ends targets m n s t r em en es et la
       },
     )
 
-pub kind-built : (b c : Bytes) (k : Kind) (ones twos a d : List ℕ) (size : ℕ) (starts ends targets rest : List ℕ) (m n s t : ℕ)
-    → m ≡ pairCount k b → n ≡ pairCount k c → s ≡ tableAt k b → t ≡ tableAt k c → m ≤ 1024 → n ≤ 1024
-    → length (take m a) ≡ m → length (take n d) ≡ n → length targets ≡ m + n
-    → Made (edges starts ends targets) size × Built b s ones (length (take m a)) c t twos (length (take n d)) (edges starts ends targets)
+pub kind-built : (b c : Bytes) (k : Kind) (ones twos rows : List ℕ) (size : ℕ) (starts ends targets rest : List ℕ) (m n s t : ℕ)
+    → m ≡ pairCount k b → n ≡ pairCount k c → s ≡ tableAt k b → t ≡ tableAt k c
+    → length rows ≡ m + n → length targets ≡ m + n
+    → Made (edges starts ends targets) size × Built b s ones m c t twos (length rows - m) (edges starts ends targets)
     → KindBuilt b c k ones twos size starts ends (targets ++ rest) (m + n)
-kind-built b c k ones twos a d size starts ends targets rest m n s t em en es et lm ln x y z r =
+kind-built b c k ones twos rows size starts ends targets rest m n s t em en es et x z r =
     let f : take (m + n) (targets ++ rest) ≡ targets = take-at targets rest (m + n) z in
+    let y : length rows - m ≡ n = omega arith in
     record {
-      few = omega arith;
+      few = simp length-append (omega arith);
       made = rw f (r .0);
-      built = rw (f, ← em, ← en, ← es, ← et) (rw (x, y) at (r .1));
+      built = rw (f, ← em, ← en, ← es, ← et) (rw y at (r .1));
     }
 
 -- ------------------------------------------------------------------ the translation steps

@@ -70,9 +70,10 @@ pub record Sorted (b : Bytes) (at : ℕ) (numbers : List ℕ) (n size : ℕ) : T
   pub rising : (p q : ℕ) → p ≤ q → q < n → keyAt b at numbers p ≤ keyAt b at numbers q
   pub small : (p : ℕ) → p < length numbers → getD numbers p 0 < size
 
--- room for the rows, the merged row, the index of so many numbers and the targets
-pub record Roomy (size : ℕ) (a d keys starts ends targets : List ℕ) : Type 0 where
-  pub merged : length keys ≡ length a + length d
+-- room for the m keys of one record and behind them those of the other, for the merged row, the index of so many numbers and the targets
+pub record Roomy (size m : ℕ) (rows keys starts ends targets : List ℕ) : Type 0 where
+  pub front : m ≤ length rows
+  pub merged : length keys ≡ length rows
   pub few : length keys < 65536
   pub targets-size : length targets ≡ length keys
   pub starts-size : length starts ≡ size
@@ -80,26 +81,27 @@ pub record Roomy (size : ℕ) (a d keys starts ends targets : List ℕ) : Type 0
   pub small : size ≤ 65536
 
 -- two records whose pairs of this kind can be built into steps of so many numbers
-pub record Buildable (b c : Bytes) (k : Kind) (ones twos : List ℕ) (starts ends targets : List ℕ) : Type 0 where
+pub record Buildable (b c : Bytes) (k : Kind) (ones twos : List ℕ) (rows keys starts ends targets : List ℕ) : Type 0 where
   pub first-size : length b ≡ recordLength
   pub second-size : length c ≡ recordLength
   pub first-sorted : Sorted b (tableAt k b) ones (pairCount k b) (length starts)
   pub second-sorted : Sorted c (tableAt k c) twos (pairCount k c) (length starts)
-  pub first-few : pairCount k b ≤ 1024
-  pub second-few : pairCount k c ≤ 1024
+  pub few : pairCount k b + pairCount k c < 65536
+  pub rows-room : pairCount k b + pairCount k c ≤ length rows
+  pub keys-room : pairCount k b + pairCount k c ≤ length keys
+  pub targets-room : pairCount k b + pairCount k c ≤ length targets
   pub ends-size : length ends ≡ length starts
-  pub targets-size : length targets ≡ 2048
   pub small : length starts ≤ 65536
 
 -- the pairs of this kind of both are built, with n targets
 pub record KindBuilt (b c : Bytes) (k : Kind) (ones twos : List ℕ) (size : ℕ) (starts ends targets : List ℕ) (n : ℕ) : Type 0 where
-  pub few : n ≤ 2048
+  pub few : n ≤ length targets
   pub made : Made (edges starts ends (take n targets)) size
   pub built : Built b (tableAt k b) ones (pairCount k b) c (tableAt k c) twos (pairCount k c) (edges starts ends (take n targets))
 
 -- for a full question the translation pairs of both are built; for a subgraph question there are no steps
 pub record TranslationsBuilt (full : Bool) (b c : Bytes) (ones twos : List ℕ) (size : ℕ) (starts ends targets : List ℕ) (n : ℕ) : Type 0 where
-  pub few : n ≤ 2048
+  pub few : n ≤ length targets
   pub made : Made (edges starts ends (take n targets)) size
   pub built : full ≡ true
       → Built b (tableAt Translation b) ones (pairCount Translation b) c (tableAt Translation c) twos (pairCount Translation c) (edges starts ends (take n targets))

@@ -1,4 +1,5 @@
 pub mod Names
 pub mod Keys
 pub mod Replies
+pub mod Room
 pub mod Union

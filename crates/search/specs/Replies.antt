@@ -25,7 +25,6 @@ pub record Askable (ns : Names) (G : Graph) (n a b : ℕ) : Type 0 where
   pub readable : Readable ns n
   pub subgraphs : Made (G .subgraphs) n
   pub translations : Made (G .translations) n
-  pub few : n ≤ 1024
   pub from : a < n
   pub to : b < n
 

@@ -70,7 +70,7 @@ pub record Questioned (b c : Bytes) (firsts seconds ones twos : List ℕ) (a e :
   pub one : Side b (number b 0) (length firsts) ones (nameOf (naming b c firsts seconds))
   pub two : Side c (number c 0) (length firsts) twos (nameOf (naming b c firsts seconds))
   pub order : InOrder (nameOf (naming b c firsts seconds)) (length firsts)
-  pub few : length firsts ≤ 1024
+  pub few : length firsts < 65536
   pub from : a < length firsts
   pub to : e < length firsts
 
@@ -98,6 +98,16 @@ abbrev pub RepliesFrom : Bool → Bytes → Bytes → ℕ → ℕ → Bytes → 
 RepliesFrom full b c p q out r o =
     (g h : GraphName) → decode b ≡ some g → decode c ≡ some h
     → Replies (sized (length out) (answered (nameAt b p) (bestPath (relationsOf full g h) (nameAt b p) (nameAt c q)))) out r o
+
+-- two records with own names
+pub record Owned (b c : Bytes) : Type 0 where
+  pub own : 0 < number b 2
+  pub other : 0 < number c 2
+  pub named : Named b c (number b 2 - 1) (number c 2 - 1)
+
+-- the right reply to a question from the own name of b to that of c
+abbrev pub RepliesOwn : Bool → Bytes → Bytes → Bytes → Reply → Bytes → Type 0
+RepliesOwn full b c out r o = RepliesFrom full b c (number b 2 - 1) (number c 2 - 1) out r o
 
 -- the question of either kind
 abbrev pub askOf : Bool → Bytes → Bytes → ℕ → Answer

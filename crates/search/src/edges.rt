@@ -5,8 +5,8 @@ use record::pair_count;
 use record::table_at;
 use text::read16;
 ghost use mathlib.Core.Path.{_≡_};
-ghost use Prim.Native.Nat.{ℕ, _+_, _/_, _%_, _≤_, _<_};
-ghost use lib.ListN.{length, getD};
+ghost use Prim.Native.Nat.{ℕ, _+_, _-_, _/_, _%_, _≤_, _<_};
+ghost use lib.ListN.{length, getD, take, drop};
 ghost use Rattle.model.specs.declared.Kind.the-variants.{Translation};
 ghost use Rattle.paths.specs.Tables.{edges, Made};
 ghost use Rattle.search.specs.Keys.{keyAt, Paired, Rises, Merged, FirstNext, Indexed, Sorted, Roomy, Built, Buildable, KindBuilt, TranslationsBuilt};
@@ -63,6 +63,14 @@ pub(crate) fn merge(a: &[u32], b: &[u32], out: &mut [u32])
     }
 }
 
+// The sorted row of the first m keys and the sorted row of those behind them as one.
+pub(crate) fn merge_rows(rows: &[u32], m: usize, out: &mut [u32])
+    requires { ⌜ (m ≤ length (now rows)) × Rises (take m (now rows)) × Rises (drop m (now rows)) × (length (now out) ≡ length (now rows)) ⌝ }
+    ensures { λ _. ⌜ Merged (take m (now (rows .entry))) (drop m (now (rows .entry))) (now (out .exit)) ⌝ }
+{
+    merge(&rows[..m], &rows[m..], out);
+}
+
 // The end of the keys of the first number v, from place e on.
 fn row_end(keys: &[u32], v: usize, e: usize) -> usize
     requires { ⌜ e ≤ length (now keys) ⌝ }
@@ -107,8 +115,8 @@ pub(crate) fn split_targets(keys: &[u32], targets: &mut [u16])
     }
 }
 
-// The pairs of one kind of two records as one table of steps: those of b from byte s on and those of c from byte t on, as many as
-// the rows `a` and `d` have room for.
+// The pairs of one kind of two records as one table of steps: the m pairs of b from byte s on and those of c from byte t on, as many
+// more as `rows` has room for.
 pub(crate) fn build(
     b: &[u8],
     s: usize,
@@ -116,45 +124,45 @@ pub(crate) fn build(
     c: &[u8],
     t: usize,
     twos: &[u16],
-    a: &mut [u32],
-    d: &mut [u32],
+    m: usize,
+    rows: &mut [u32],
     keys: &mut [u32],
     starts: &mut [u16],
     ends: &mut [u16],
     targets: &mut [u16],
 )
-    requires { ⌜ Sorted (now b) s (now ones) (length (now a)) (length (now starts)) × Sorted (now c) t (now twos) (length (now d)) (length (now starts)) × Roomy (length (now starts)) (now a) (now d) (now keys) (now starts) (now ends) (now targets) ⌝ }
+    requires { ⌜ Sorted (now b) s (now ones) m (length (now starts)) × Sorted (now c) t (now twos) (length (now rows) - m) (length (now starts)) × Roomy (length (now starts)) m (now rows) (now keys) (now starts) (now ends) (now targets) ⌝ }
     ensures { λ _. ⌜ Made (edges (now (starts .exit)) (now (ends .exit)) (now (targets .exit))) (length (now (starts .entry))) ⌝ }
-    ensures { λ _. ⌜ Built (now (b .entry)) s (now (ones .entry)) (length (now (a .entry))) (now (c .entry)) t (now (twos .entry)) (length (now (d .entry))) (edges (now (starts .exit)) (now (ends .exit)) (now (targets .exit))) ⌝ }
+    ensures { λ _. ⌜ Built (now (b .entry)) s (now (ones .entry)) m (now (c .entry)) t (now (twos .entry)) (length (now (rows .entry)) - m) (edges (now (starts .exit)) (now (ends .exit)) (now (targets .exit))) ⌝ }
 {
-    read_keys(b, s, ones, a);
-    read_keys(c, t, twos, d);
-    merge(a, d, keys);
+    read_keys(b, s, ones, &mut rows[..m]);
+    read_keys(c, t, twos, &mut rows[m..]);
+    merge_rows(rows, m, keys);
     index(keys, starts, ends);
     split_targets(keys, targets);
 }
 
-// The pairs of one kind of two records as one table of steps; gives how many targets there are.
+// The pairs of one kind of two records as one table of steps; gives how many targets there are. The table
+// `rows` is for the keys of the first and behind them those of the second, `keys` for those of both in order.
 pub(crate) fn kind_edges(
     b: &[u8],
     c: &[u8],
     kind: Kind,
     ones: &[u16],
     twos: &[u16],
+    rows: &mut [u32],
+    keys: &mut [u32],
     starts: &mut [u16],
     ends: &mut [u16],
     targets: &mut [u16],
 ) -> usize
-    requires { ⌜ Buildable (now b) (now c) kind (now ones) (now twos) (now starts) (now ends) (now targets) ⌝ }
+    requires { ⌜ Buildable (now b) (now c) kind (now ones) (now twos) (now rows) (now keys) (now starts) (now ends) (now targets) ⌝ }
     ensures { λ r. ⌜ KindBuilt (now (b .entry)) (now (c .entry)) kind (now (ones .entry)) (now (twos .entry)) (length (now (starts .entry))) (now (starts .exit)) (now (ends .exit)) (now (targets .exit)) r ⌝ }
 {
     let m = pair_count(b, kind);
     let n = pair_count(c, kind);
     let s = table_at(b, kind);
     let t = table_at(c, kind);
-    let mut a: [u32; 1024] = [0; 1024];
-    let mut d: [u32; 1024] = [0; 1024];
-    let mut keys: [u32; 2048] = [0; 2048];
     build(
         b,
         s,
@@ -162,8 +170,8 @@ pub(crate) fn kind_edges(
         c,
         t,
         twos,
-        &mut a[..m],
-        &mut d[..n],
+        m,
+        &mut rows[..m + n],
         &mut keys[..m + n],
         starts,
         ends,
@@ -180,15 +188,28 @@ pub(crate) fn translation_edges(
     c: &[u8],
     ones: &[u16],
     twos: &[u16],
+    rows: &mut [u32],
+    keys: &mut [u32],
     starts: &mut [u16],
     ends: &mut [u16],
     targets: &mut [u16],
 ) -> usize
-    requires { ⌜ Buildable (now b) (now c) Translation (now ones) (now twos) (now starts) (now ends) (now targets) ⌝ }
+    requires { ⌜ Buildable (now b) (now c) Translation (now ones) (now twos) (now rows) (now keys) (now starts) (now ends) (now targets) ⌝ }
     ensures { λ r. ⌜ TranslationsBuilt full (now (b .entry)) (now (c .entry)) (now (ones .entry)) (now (twos .entry)) (length (now (starts .entry))) (now (starts .exit)) (now (ends .exit)) (now (targets .exit)) r ⌝ }
 {
     if full {
-        return kind_edges(b, c, Kind::Translation, ones, twos, starts, ends, targets);
+        return kind_edges(
+            b,
+            c,
+            Kind::Translation,
+            ones,
+            twos,
+            rows,
+            keys,
+            starts,
+            ends,
+            targets,
+        );
     }
     clear(starts);
     clear(ends);

@@ -5,6 +5,7 @@
 mod edges;
 mod names;
 mod question;
+mod tables;
 mod union;
 mod written;
 

@@ -2,6 +2,15 @@
 use crate::Reply;
 use crate::edges::kind_edges;
 use crate::edges::translation_edges;
+use crate::tables::fits;
+use crate::tables::large_keys;
+use crate::tables::large_kinds;
+use crate::tables::large_names;
+use crate::tables::large_targets;
+use crate::tables::small_keys;
+use crate::tables::small_kinds;
+use crate::tables::small_names;
+use crate::tables::small_targets;
 use crate::union::number_names;
 use crate::written::put_path;
 use model::Kind;
@@ -10,15 +19,16 @@ use paths::search;
 use record::fault_of_both;
 use text::read16;
 ghost use mathlib.Core.Path.{_≡_};
-ghost use Prim.Native.Nat.{_<_};
 ghost use lib.ListN.{length};
 ghost use Rattle.paths.specs.Tables.{edges, graph};
 ghost use Rattle.search.specs.Names.{naming};
-ghost use Rattle.search.specs.Union.{Questioned, RepliesTo, Named, RepliesFrom, askOf};
+ghost use Rattle.paths.specs.Queue.{queued, Room};
+ghost use Rattle.search.specs.Union.{Questioned, RepliesTo, Owned, RepliesOwn, askOf};
+ghost use Rattle.search.specs.Room.{PairsWithin, Within, NameTables, PairTables, StepTables};
 ghost use Rattle.search.specs.Replies.{Askable, RepliesRight, Replies};
 ghost use Rattle.model.specs.Outcome.{askSubgraph, askFull};
 
-// Finds the path from node a to node b, and writes it if there is room.
+// Finds the path from node a to node b, and writes it if there is room. The tables from `nodes` on are for the search.
 fn find_path<'a>(
     first: &'a [u8],
     second: &'a [u8],
@@ -32,16 +42,16 @@ fn find_path<'a>(
     transtargets: &[u16],
     a: usize,
     b: usize,
+    nodes: &mut [u16],
+    parents: &mut [u16],
+    kinds: &mut [u8],
+    places: &mut [u16],
     out: &mut [u8],
 ) -> Reply
     requires { ⌜ Askable (naming (now first) (now second) (now firsts) (now seconds)) (graph (edges (now substarts) (now subends) (now subtargets)) (edges (now transtarts) (now transends) (now transtargets))) (length (now firsts)) a b ⌝ }
+    requires { ⌜ Room (queued (now nodes) (now parents) (now kinds) (now places) 0) × (length (now places) ≡ length (now firsts)) ⌝ }
     ensures { λ r. ⌜ RepliesRight (naming (now (first .entry)) (now (second .entry)) (now (firsts .entry)) (now (seconds .entry))) (graph (edges (now (substarts .entry)) (now (subends .entry)) (now (subtargets .entry))) (edges (now (transtarts .entry)) (now (transends .entry)) (now (transtargets .entry)))) (length (now (firsts .entry))) a b (now (out .entry)) r (now (out .exit)) ⌝ }
 {
-    let n = firsts.len();
-    let mut nodes: [u16; 1024] = [0; 1024];
-    let mut parents: [u16; 1024] = [0; 1024];
-    let mut kinds: [u8; 1024] = [0; 1024];
-    let mut places: [u16; 1024] = [0; 1024];
     match search(
         substarts,
         subends,
@@ -51,10 +61,10 @@ fn find_path<'a>(
         transtargets,
         a,
         b,
-        &mut nodes[..n],
-        &mut parents[..n],
-        &mut kinds[..n],
-        &mut places[..n],
+        nodes,
+        parents,
+        kinds,
+        places,
     ) {
         Place::NotFound => Reply::No,
         Place::Found(j) => {
@@ -63,9 +73,9 @@ fn find_path<'a>(
                 second,
                 firsts,
                 seconds,
-                &nodes[..n],
-                &parents[..n],
-                &kinds[..n],
+                nodes,
+                parents,
+                kinds,
                 j,
                 out,
             ) {
@@ -77,6 +87,7 @@ fn find_path<'a>(
 }
 
 // The path from the name of number `from` to that of number `to`, over the subgraph pairs of both records, or over all their pairs.
+// The tables from `rows` on are for the pairs and the steps, those from `nodes` on for the search.
 fn ask_numbered<'a>(
     b: &'a [u8],
     c: &'a [u8],
@@ -87,69 +98,94 @@ fn ask_numbered<'a>(
     from: usize,
     to: usize,
     full: bool,
+    rows: &mut [u32],
+    keys: &mut [u32],
+    starts: &mut [u16],
+    ends: &mut [u16],
+    targets: &mut [u16],
+    starts2: &mut [u16],
+    ends2: &mut [u16],
+    targets2: &mut [u16],
+    nodes: &mut [u16],
+    parents: &mut [u16],
+    kinds: &mut [u8],
+    places: &mut [u16],
     out: &mut [u8],
 ) -> Reply
     requires { ⌜ Questioned (now b) (now c) (now firsts) (now seconds) (now ones) (now twos) from to ⌝ }
+    requires { ⌜ PairsWithin (now b) (now c) (length (now keys)) × PairTables (length (now keys)) (now rows) (now targets) (now targets2) ⌝ }
+    requires { ⌜ StepTables (length (now firsts)) (now starts) (now ends) (now starts2) (now ends2) ⌝ }
+    requires { ⌜ Room (queued (now nodes) (now parents) (now kinds) (now places) 0) × (length (now places) ≡ length (now firsts)) ⌝ }
     ensures { λ r. ⌜ RepliesTo full (now (b .entry)) (now (c .entry)) (naming (now (b .entry)) (now (c .entry)) (now (firsts .entry)) (now (seconds .entry))) from to (now (out .entry)) r (now (out .exit)) ⌝ }
 {
-    let n = firsts.len();
-    let mut starts: [u16; 1024] = [0; 1024];
-    let mut ends: [u16; 1024] = [0; 1024];
-    let mut targets: [u16; 2048] = [0; 2048];
-    let mut starts2: [u16; 1024] = [0; 1024];
-    let mut ends2: [u16; 1024] = [0; 1024];
-    let mut targets2: [u16; 2048] = [0; 2048];
     let k = kind_edges(
         b,
         c,
         Kind::Subgraph,
         ones,
         twos,
-        &mut starts[..n],
-        &mut ends[..n],
-        &mut targets,
+        rows,
+        keys,
+        starts,
+        ends,
+        targets,
     );
-    let l = translation_edges(
-        full,
-        b,
-        c,
-        ones,
-        twos,
-        &mut starts2[..n],
-        &mut ends2[..n],
-        &mut targets2,
-    );
+    let l = translation_edges(full, b, c, ones, twos, rows, keys, starts2, ends2, targets2);
     find_path(
         b,
         c,
         firsts,
         seconds,
-        &starts[..n],
-        &ends[..n],
+        starts,
+        ends,
         &targets[..k],
-        &starts2[..n],
-        &ends2[..n],
+        starts2,
+        ends2,
         &targets2[..l],
         from,
         to,
+        nodes,
+        parents,
+        kinds,
+        places,
         out,
     )
 }
 
-// The path from the name at place p of b to the name at place q of c.
-fn ask_named<'a>(b: &'a [u8], c: &'a [u8], p: usize, q: usize, full: bool, out: &mut [u8]) -> Reply
-    requires { ⌜ Named (now b) (now c) p q ⌝ }
-    ensures { λ r. ⌜ RepliesFrom full (now (b .entry)) (now (c .entry)) p q (now (out .entry)) r (now (out .exit)) ⌝ }
+// The path from the own name of b to the own name of c, in tables that are lent.
+fn ask_named<'a>(
+    b: &'a [u8],
+    c: &'a [u8],
+    full: bool,
+    firsts: &mut [u16],
+    seconds: &mut [u16],
+    ones: &mut [u16],
+    twos: &mut [u16],
+    rows: &mut [u32],
+    keys: &mut [u32],
+    starts: &mut [u16],
+    ends: &mut [u16],
+    targets: &mut [u16],
+    starts2: &mut [u16],
+    ends2: &mut [u16],
+    targets2: &mut [u16],
+    nodes: &mut [u16],
+    parents: &mut [u16],
+    kinds: &mut [u8],
+    places: &mut [u16],
+    out: &mut [u8],
+) -> Reply
+    requires { ⌜ Owned (now b) (now c) ⌝ }
+    requires { ⌜ Within (now b) (now c) (length (now firsts)) (length (now keys)) ⌝ }
+    requires { ⌜ NameTables (length (now firsts)) (now seconds) (now ones) (now twos) (now starts) (now ends) (now starts2) (now ends2) (now nodes) (now parents) (now kinds) (now places) ⌝ }
+    requires { ⌜ PairTables (length (now keys)) (now rows) (now targets) (now targets2) ⌝ }
+    ensures { λ r. ⌜ RepliesOwn full (now (b .entry)) (now (c .entry)) (now (out .entry)) r (now (out .exit)) ⌝ }
 {
     let m = read16(b, 0);
     let n = read16(c, 0);
-    let mut firsts: [u16; 1024] = [0; 1024];
-    let mut seconds: [u16; 1024] = [0; 1024];
-    let mut ones: [u16; 512] = [0; 512];
-    let mut twos: [u16; 512] = [0; 512];
-    let v = number_names(b, c, m, n, &mut firsts, &mut seconds, &mut ones, &mut twos);
-    let from = ones[p] as usize;
-    let to = twos[q] as usize;
+    let v = number_names(b, c, m, n, firsts, seconds, ones, twos);
+    let from = ones[read16(b, 2) - 1] as usize;
+    let to = twos[read16(c, 2) - 1] as usize;
     ask_numbered(
         b,
         c,
@@ -160,6 +196,108 @@ fn ask_named<'a>(b: &'a [u8], c: &'a [u8], p: usize, q: usize, full: bool, out: 
         from,
         to,
         full,
+        rows,
+        keys,
+        &mut starts[..v],
+        &mut ends[..v],
+        targets,
+        &mut starts2[..v],
+        &mut ends2[..v],
+        targets2,
+        &mut nodes[..v],
+        &mut parents[..v],
+        &mut kinds[..v],
+        &mut places[..v],
+        out,
+    )
+}
+
+// The question in tables for few names and pairs, which take less time to clear.
+fn ask_small<'a>(b: &'a [u8], c: &'a [u8], full: bool, out: &mut [u8]) -> Reply
+    requires { ⌜ Owned (now b) (now c) × Within (now b) (now c) 256 256 ⌝ }
+    ensures { λ r. ⌜ RepliesOwn full (now (b .entry)) (now (c .entry)) (now (out .entry)) r (now (out .exit)) ⌝ }
+{
+    let mut firsts = small_names();
+    let mut seconds = small_names();
+    let mut ones = small_names();
+    let mut twos = small_names();
+    let mut rows = small_keys();
+    let mut keys = small_keys();
+    let mut starts = small_names();
+    let mut ends = small_names();
+    let mut targets = small_targets();
+    let mut starts2 = small_names();
+    let mut ends2 = small_names();
+    let mut targets2 = small_targets();
+    let mut nodes = small_names();
+    let mut parents = small_names();
+    let mut kinds = small_kinds();
+    let mut places = small_names();
+    ask_named(
+        b,
+        c,
+        full,
+        &mut firsts,
+        &mut seconds,
+        &mut ones,
+        &mut twos,
+        &mut rows,
+        &mut keys,
+        &mut starts,
+        &mut ends,
+        &mut targets,
+        &mut starts2,
+        &mut ends2,
+        &mut targets2,
+        &mut nodes,
+        &mut parents,
+        &mut kinds,
+        &mut places,
+        out,
+    )
+}
+
+// The question in tables for the names and pairs of any two records.
+fn ask_large<'a>(b: &'a [u8], c: &'a [u8], full: bool, out: &mut [u8]) -> Reply
+    requires { ⌜ Owned (now b) (now c) ⌝ }
+    ensures { λ r. ⌜ RepliesOwn full (now (b .entry)) (now (c .entry)) (now (out .entry)) r (now (out .exit)) ⌝ }
+{
+    let mut firsts = large_names();
+    let mut seconds = large_names();
+    let mut ones = large_names();
+    let mut twos = large_names();
+    let mut rows = large_keys();
+    let mut keys = large_keys();
+    let mut starts = large_names();
+    let mut ends = large_names();
+    let mut targets = large_targets();
+    let mut starts2 = large_names();
+    let mut ends2 = large_names();
+    let mut targets2 = large_targets();
+    let mut nodes = large_names();
+    let mut parents = large_names();
+    let mut kinds = large_kinds();
+    let mut places = large_names();
+    ask_named(
+        b,
+        c,
+        full,
+        &mut firsts,
+        &mut seconds,
+        &mut ones,
+        &mut twos,
+        &mut rows,
+        &mut keys,
+        &mut starts,
+        &mut ends,
+        &mut targets,
+        &mut starts2,
+        &mut ends2,
+        &mut targets2,
+        &mut nodes,
+        &mut parents,
+        &mut kinds,
+        &mut places,
         out,
     )
 }
@@ -172,15 +310,16 @@ fn ask<'a>(b: &'a [u8], c: &'a [u8], full: bool, out: &mut [u8]) -> Reply
     if wrong != 0 {
         return Reply::Refused(wrong);
     }
-    let own = read16(b, 2);
-    if own == 0 {
+    if read16(b, 2) == 0 {
         return Reply::No;
     }
-    let other = read16(c, 2);
-    if other == 0 {
+    if read16(c, 2) == 0 {
         return Reply::No;
     }
-    ask_named(b, c, own - 1, other - 1, full, out)
+    if fits(b, c) {
+        return ask_small(b, c, full, out);
+    }
+    ask_large(b, c, full, out)
 }
 
 // Whether the graph of b is a subgraph of that of c, by subgraph pairs; on a yes the path's bytes go to the front of the output.

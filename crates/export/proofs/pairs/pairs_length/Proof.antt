@@ -13,24 +13,27 @@ use Rattle.export.proofs.pairs.pairs_length.Statement.{statement}
 use Rattle.export.proofs.pairs.pairs_length.Tie as tie
 
 abbrev Inv-loop : tie.InvT-loop
-Inv-loop b pairs count beyond size₀ p₀ left₀ size p left =
+Inv-loop b pairs count beyond bodies size₀ p₀ left₀ size p left =
     PairsIn b p left
     × (size + pairsSize beyond (pairsFrom b p left) ≡ pairsSize beyond (pairsFrom b pairs count))
     × (size + 65552 * left ≤ 65552 * count)
 
 abbrev μ-loop : tie.MeasureT-loop
-μ-loop b pairs count beyond size₀ p₀ left₀ size p left = left
+μ-loop b pairs count beyond bodies size₀ p₀ left₀ size p left = left
+
+bodies-at-requires : tie.Need-bodies-at-requires Inv-loop μ-loop
+bodies-at-requires c κs = c .before .pre .0 .size
 
 loop-holds : tie.Need-loop-holds Inv-loop μ-loop
-loop-holds c = (c .before .pre .0, omega arith, omega arith)
+loop-holds c = (c .before .before .pre .0, omega arith, omega arith)
 
 read16-requires : tie.Need-read16-requires Inv-loop μ-loop
 read16-requires c κs = let l = c .before .loop in omega (arith, pair-places _ (l .p) (l .left) (search needs) (l .inv .0))
 
-name-at-requires : tie.Need-name-at-requires Inv-loop μ-loop
-name-at-requires c κs =
+name-in-requires : tie.Need-name-in-requires Inv-loop μ-loop
+name-in-requires c κs =
     let l = c .before .before .loop in
-    (l .inv .0 .size, omega (arith, pair-places _ (l .p) (l .left) (search needs) (l .inv .0)))
+    (l .inv .0 .size, c .before .before .before .bodies-at .ensures .0, c .before .before .before .bodies-at .ensures .1, omega (arith, pair-places _ (l .p) (l .left) (search needs) (l .inv .0)))
 
 add-read16 : tie.Need-add-read16 Inv-loop μ-loop
 add-read16 c = let l = c .before .before .before .loop in omega (arith, pair-places _ (l .p) (l .left) (search needs) (l .inv .0))
@@ -38,17 +41,17 @@ add-read16 c = let l = c .before .before .before .loop in omega (arith, pair-pla
 read16-requires-2 : tie.Need-read16-requires-2 Inv-loop μ-loop
 read16-requires-2 c κs = let l = c .before .before .before .loop in omega (arith, pair-places _ (l .p) (l .left) (search needs) (l .inv .0))
 
-name-at-requires-2 : tie.Need-name-at-requires-2 Inv-loop μ-loop
-name-at-requires-2 c κs =
+name-in-requires-2 : tie.Need-name-in-requires-2 Inv-loop μ-loop
+name-in-requires-2 c κs =
     let l = c .before .before .before .before .loop in
-    (l .inv .0 .size, omega (arith, pair-places _ (l .p) (l .left) (search needs) (l .inv .0)))
+    (l .inv .0 .size, c .before .before .before .before .before .bodies-at .ensures .0, c .before .before .before .before .before .bodies-at .ensures .1, omega (arith, pair-places _ (l .p) (l .left) (search needs) (l .inv .0)))
 
-sizes : (c : tie.After-name-at2 Inv-loop μ-loop) → (length (c .before .before .name-at .result .now) ≤ 32768) × (length (c .name-at2 .result .now) ≤ 32768)
+sizes : (c : tie.After-name-in2 Inv-loop μ-loop) → (length (c .before .before .name-in .result .now) ≤ 32768) × (length (c .name-in2 .result .now) ≤ 32768)
 sizes c =
-    let b = c .before .before .before .before .before .before .before .args .b .now in
+    let b = c .before .before .before .before .before .before .before .before .args .b .now in
     let s = c .before .before .before .before .before .loop .inv .0 .size in (
-      omega (arith, ap length (c .before .before .name-at .ensures), name-size b (c .before .before .before .read16 .result)),
-      omega (arith, ap length (c .name-at2 .ensures), name-size b (c .before .read162 .result)),
+      omega (arith, ap length (c .before .before .name-in .ensures), name-size b (c .before .before .before .read16 .result)),
+      omega (arith, ap length (c .name-in2 .ensures), name-size b (c .before .read162 .result)),
     )
 
 add-size : tie.Need-add-size Inv-loop μ-loop
@@ -72,10 +75,10 @@ loop-less c = search needs
 loop-again : tie.Need-loop-again Inv-loop μ-loop
 loop-again c =
     let l = c .before .before .before .before .before .loop in
-    let a = c .before .before .before .before .before .before .before .args in
+    let a = c .before .before .before .before .before .before .before .before .args in
     let k = c .before .before .before in
-    let from = name-read (a .b .now) _ (k .read16 .result) (number (a .b .now) (l .p)) (k .read16 .ensures .0) (c .before .before .name-at .ensures) in
-    let to = name-read (a .b .now) _ (c .before .read162 .result) (number (a .b .now) (l .p + 2)) (c .before .read162 .ensures .0) (c .name-at2 .ensures) in (
+    let from = name-read (a .b .now) _ (k .read16 .result) (number (a .b .now) (l .p)) (k .read16 .ensures .0) (c .before .before .name-in .ensures) in
+    let to = name-read (a .b .now) _ (c .before .read162 .result) (number (a .b .now) (l .p + 2)) (c .before .read162 .ensures .0) (c .name-in2 .ensures) in (
       pairs-rest _ (l .p) (l .left) (search needs) (l .inv .0),
       omega (arith, size-turn (a .b .now) (l .p) (l .left) (search needs) (a .beyond), ap length from, ap length to),
       omega (arith, sizes c),
@@ -84,8 +87,8 @@ loop-again c =
 returns : tie.Need-returns Inv-loop μ-loop
 returns c =
     let l = c .before .loop in
-    let a = c .before .before .before .args in
-    let end = c .before .before .before .pre .0 .end in
+    let a = c .before .before .before .before .args in
+    let end = c .before .before .before .before .pre .0 .end in
     omega (arith, size-end (a .b .now) (l .p) (l .left) (search needs) (a .beyond))
 
 pub pairs-length-spec : {M : Type 1} → statement M
@@ -94,12 +97,13 @@ pairs-length-spec =
     (tie.spec
     Inv-loop
     μ-loop
+    bodies-at-requires
     loop-holds
     read16-requires
-    name-at-requires
+    name-in-requires
     add-read16
     read16-requires-2
-    name-at-requires-2
+    name-in-requires-2
     add-size
     add-size-2
     add-size-3

@@ -16,25 +16,28 @@ use Rattle.export.proofs.pairs.put_pairs.Statement.{statement}
 use Rattle.export.proofs.pairs.put_pairs.Tie as tie
 
 abbrev Inv-loop : tie.InvT-loop
-Inv-loop out₀ at b pairs count before between after q₀ p₀ left₀ out q p left =
+Inv-loop out₀ at b pairs count before between after bodies q₀ p₀ left₀ out q p left =
     PairsIn b p left
     × (length out ≡ length out₀)
     × (q + length (pairTexts before between after (pairsFrom b p left)) ≡ at + length (pairTexts before between after (pairsFrom b pairs count)))
     × (put out q (pairTexts before between after (pairsFrom b p left)) ≡ put out₀ at (pairTexts before between after (pairsFrom b pairs count)))
 
 abbrev μ-loop : tie.MeasureT-loop
-μ-loop out₀ at b pairs count before between after q₀ p₀ left₀ out q p left = left
+μ-loop out₀ at b pairs count before between after bodies q₀ p₀ left₀ out q p left = left
+
+bodies-at-requires : tie.Need-bodies-at-requires Inv-loop μ-loop
+bodies-at-requires c κs = c .before .before .before .before .pre .0 .size
 
 loop-holds : tie.Need-loop-holds Inv-loop μ-loop
-loop-holds c = (c .before .before .before .before .pre .0, refl, refl, refl)
+loop-holds c = (c .before .before .before .before .before .pre .0, refl, refl, refl)
 
 read16-requires : tie.Need-read16-requires Inv-loop μ-loop
 read16-requires c κs = let l = c .before .loop in omega (arith, pair-places _ (l .p) (l .left) (search needs) (l .inv .0))
 
-name-at-requires : tie.Need-name-at-requires Inv-loop μ-loop
-name-at-requires c κs =
+name-in-requires : tie.Need-name-in-requires Inv-loop μ-loop
+name-in-requires c κs =
     let l = c .before .before .loop in
-    (l .inv .0 .size, omega (arith, pair-places _ (l .p) (l .left) (search needs) (l .inv .0)))
+    (l .inv .0 .size, c .before .before .before .bodies-at .ensures .0, c .before .before .before .bodies-at .ensures .1, omega (arith, pair-places _ (l .p) (l .left) (search needs) (l .inv .0)))
 
 add-read16 : tie.Need-add-read16 Inv-loop μ-loop
 add-read16 c = let l = c .before .before .before .loop in omega (arith, pair-places _ (l .p) (l .left) (search needs) (l .inv .0))
@@ -42,22 +45,22 @@ add-read16 c = let l = c .before .before .before .loop in omega (arith, pair-pla
 read16-requires-2 : tie.Need-read16-requires-2 Inv-loop μ-loop
 read16-requires-2 c κs = let l = c .before .before .before .loop in omega (arith, pair-places _ (l .p) (l .left) (search needs) (l .inv .0))
 
-name-at-requires-2 : tie.Need-name-at-requires-2 Inv-loop μ-loop
-name-at-requires-2 c κs =
+name-in-requires-2 : tie.Need-name-in-requires-2 Inv-loop μ-loop
+name-in-requires-2 c κs =
     let l = c .before .before .before .before .loop in
-    (l .inv .0 .size, omega (arith, pair-places _ (l .p) (l .left) (search needs) (l .inv .0)))
+    (l .inv .0 .size, c .before .before .before .before .before .bodies-at .ensures .0, c .before .before .before .before .before .bodies-at .ensures .1, omega (arith, pair-places _ (l .p) (l .left) (search needs) (l .inv .0)))
 
 pair : (c : tie.After-put-pair-arg Inv-loop μ-loop)
-    → _≡_ {A = Pair} (record { from = c .before .before .before .name-at .result .now; to = c .before .name-at2 .result .now }) (pairAt (c .before .before .before .before .before .before .before .before .before .before .before .args .b .now) (c .before .before .before .before .before .before .loop .p))
+    → _≡_ {A = Pair} (record { from = c .before .before .before .name-in .result .now; to = c .before .name-in2 .result .now }) (pairAt (c .before .before .before .before .before .before .before .before .before .before .before .before .args .b .now) (c .before .before .before .before .before .before .loop .p))
 pair c =
     let k = c .before .before .before .before in
-    pair-read (c .before .before .before .before .before .before .before .before .before .before .before .args .b .now) _ _ (k .read16 .result) (c .before .before .read162 .result) (c .before .before .before .before .before .before .loop .p)
-    (k .read16 .ensures .0) (c .before .before .before .name-at .ensures) (c .before .before .read162 .ensures .0) (c .before .name-at2 .ensures)
+    pair-read (c .before .before .before .before .before .before .before .before .before .before .before .before .args .b .now) _ _ (k .read16 .result) (c .before .before .read162 .result) (c .before .before .before .before .before .before .loop .p)
+    (k .read16 .ensures .0) (c .before .before .before .name-in .ensures) (c .before .before .read162 .ensures .0) (c .before .name-in2 .ensures)
 
 put-pair-requires : tie.Need-put-pair-requires Inv-loop μ-loop
 put-pair-requires c κs =
     let l = c .before .before .before .before .before .before .loop in
-    let a = c .before .before .before .before .before .before .before .before .before .before .before .args in
+    let a = c .before .before .before .before .before .before .before .before .before .before .before .before .args in
     let text = pairText (a .before .now) (a .between) (a .after .now) in
     let turn =
     ap length (texts-turn (a .b .now) (l .p) (l .left) (search needs) (a .before .now) (a .between) (a .after .now))
@@ -76,7 +79,7 @@ loop-less c = search needs
 loop-again : tie.Need-loop-again Inv-loop μ-loop
 loop-again c =
     let l = c .before .before .before .before .before .before .before .before .before .loop in
-    let s = c .before .before .before .before .before .before .before .before .before .before .before .before .before .before in
+    let s = c .before .before .before .before .before .before .before .before .before .before .before .before .before .before .before in
     let a = s .args in
     let k = c .before .before in
     let w =
@@ -90,7 +93,7 @@ same-length c = search needs
 returns : tie.Need-returns Inv-loop μ-loop
 returns c =
     let l = c .before .loop in
-    let a = c .before .before .before .before .before .before .args in
+    let a = c .before .before .before .before .before .before .before .args in
     let none = texts-end (a .b .now) (l .p) (l .left) (search needs) (a .before .now) (a .between) (a .after .now) in
     (omega (arith, ap length none), sym (put-none (l .out) (l .q)) ∙ ap (put (l .out) (l .q)) (sym none) ∙ l .inv .3)
 
@@ -100,12 +103,13 @@ put-pairs-spec =
     (tie.spec
     Inv-loop
     μ-loop
+    bodies-at-requires
     loop-holds
     read16-requires
-    name-at-requires
+    name-in-requires
     add-read16
     read16-requires-2
-    name-at-requires-2
+    name-in-requires-2
     put-pair-requires
     add-p
     sub-left

@@ -17,16 +17,22 @@ abbrev μ-loop : tie.MeasureT-loop
 skip-zeros-requires : tie.Need-skip-zeros-requires Inv-loop μ-loop
 skip-zeros-requires c κs = search needs
 
-loop-holds : tie.Need-loop-holds Inv-loop μ-loop
-loop-holds c = c .skip-zeros .ensures
-
-shared-slice-read-if1 : tie.Need-shared-slice-read-if1 Inv-loop μ-loop
-shared-slice-read-if1 c = search needs
+zero-end-requires : tie.Need-zero-end-requires Inv-loop μ-loop
+zero-end-requires c κs = search needs
 
 returns : tie.Need-returns Inv-loop μ-loop
-returns c =
+returns c = sym (c .before .before .skip-zeros .ensures .1 ∙ c .before .zero-end .ensures (c .if1 .taken))
+
+loop-holds : tie.Need-loop-holds Inv-loop μ-loop
+loop-holds c = c .before .before .skip-zeros .ensures
+
+shared-slice-read-if2 : tie.Need-shared-slice-read-if2 Inv-loop μ-loop
+shared-slice-read-if2 c = search needs
+
+returns-2 : tie.Need-returns-2 Inv-loop μ-loop
+returns-2 c =
     let l = c .before .before .before .loop in
-    sym (l .inv .1 ∙ zeros-false (c .before .before .before .before .before .before .args .b .now) (l .i) (search needs) (c .if1 .taken))
+    sym (l .inv .1 ∙ zeros-false (c .before .before .before .before .before .before .before .before .args .b .now) (l .i) (search needs) (c .if2 .taken))
 
 add-i : tie.Need-add-i Inv-loop μ-loop
 add-i c = search needs
@@ -37,12 +43,12 @@ loop-less c = search needs
 loop-again : tie.Need-loop-again Inv-loop μ-loop
 loop-again c =
     let l = c .before .before .before .loop in
-    (search needs, l .inv .1 ∙ zeros-more (c .before .before .before .before .before .before .args .b .now) (l .i) (search needs) (c .if1 .left))
+    (search needs, l .inv .1 ∙ zeros-more (c .before .before .before .before .before .before .before .before .args .b .now) (l .i) (search needs) (c .if2 .left))
 
-returns-2 : tie.Need-returns-2 Inv-loop μ-loop
-returns-2 c =
+returns-3 : tie.Need-returns-3 Inv-loop μ-loop
+returns-3 c =
     let l = c .before .loop in
-    sym (l .inv .1 ∙ zeros-end (c .before .before .before .before .args .b .now) (l .i) (search needs))
+    sym (l .inv .1 ∙ zeros-end (c .before .before .before .before .before .before .args .b .now) (l .i) (search needs))
 
 pub zeros-from-spec : {M : Type 1} → statement M
 zeros-from-spec =
@@ -51,10 +57,12 @@ zeros-from-spec =
     Inv-loop
     μ-loop
     skip-zeros-requires
-    loop-holds
-    shared-slice-read-if1
+    zero-end-requires
     returns
+    loop-holds
+    shared-slice-read-if2
+    returns-2
     add-i
     loop-less
     loop-again
-    returns-2)
+    returns-3)

@@ -1,10 +1,11 @@
--- Each test decides one case of the definition.
+-- Each test decides one case of the definition; then the tables are chosen.
+use native.Mathlib.Omega.{arith}
 use mathlib.Core.Path.{refl, sym, _∙_}
 use lib.ListN.{length}
 use denote.Ref.{now}
+use Rattle.search.specs.Union.{Owned}
 use Rattle.record.proofs.Laws.{decode-held}
-use Rattle.search.proofs.Entry.{Faultless, faultless, ask-fault, ask-unnamed, ask-other-unnamed, named-read, ask-read}
-use native.Mathlib.Omega.{arith}
+use Rattle.search.proofs.Entry.{Faultless, faultless, ask-fault, ask-unnamed, ask-other-unnamed, owned-read, ask-read}
 use borrow.Author.Needs.{needs}
 use Rattle.search.proofs.question.ask.Statement.{statement}
 use Rattle.search.proofs.question.ask.Tie as tie
@@ -14,6 +15,9 @@ start c = c .before .before .before .before
 
 right : (c : tie.Else1) → Faultless (now (start (c .before) .args .b)) (now (start (c .before) .args .c))
 right c = faultless _ _ (sym (c .before .fault-of-both .ensures) ∙ c .if1 .left)
+
+owned : (e : tie.Else3) → Owned (now (start (e .before .before .before .before .before) .args .b)) (now (start (e .before .before .before .before .before) .args .c))
+owned e = let l = e .before .before .before .before in owned-read _ _ (right l) _ _ (e .before .before .before .read16 .ensures .0) (e .before .read162 .ensures .0) (e .before .before .if2 .left) (e .if3 .left)
 
 fault-of-both-requires : tie.Need-fault-of-both-requires
 fault-of-both-requires c κs = search needs
@@ -33,17 +37,11 @@ read16-requires-2 c κs = let l = c .before .before in omega (arith, decode-held
 returns-3 : tie.Need-returns-3
 returns-3 c = let l = c .before .before .before .before in let f = right l in rw (ask-other-unnamed _ _ (length (now (start (l .before) .args .out))) _ _ (f .first) (f .second) (start (l .before) .args .full) (sym (c .before .read162 .ensures .0) ∙ c .if3 .taken)) (refl, refl)
 
-sub-ask-named : tie.Need-sub-ask-named
-sub-ask-named c = search needs
+fits-requires : tie.Need-fits-requires
+fits-requires c κs = let f = right (c .before .before .before .before) in (decode-held _ _ (f .first) .long, decode-held _ _ (f .second) .long)
 
-sub-ask-named-2 : tie.Need-sub-ask-named-2
-sub-ask-named-2 c = search needs
-
-ask-named-requires : tie.Need-ask-named-requires
-ask-named-requires c κs =
-    let e = c .before in
-    let l = e .before .before .before .before in
-    named-read _ _ (right l) _ _ (e .before .before .before .read16 .ensures .0) (e .before .read162 .ensures .0) (e .before .before .if2 .left) (e .if3 .left)
+ask-small-requires : tie.Need-ask-small-requires
+ask-small-requires c κs = let a = c .before .before in (owned (a .before), a .fits2 .ensures (c .before .if4 .taken))
 
 same-length : tie.Need-same-length
 same-length c = search needs
@@ -51,10 +49,24 @@ same-length c = search needs
 returns-4 : tie.Need-returns-4
 returns-4 c =
     let a = c .before .before in
-    let e = a .before .before in
+    let e = a .before .before .before .before in
     let l = e .before .before .before .before in
     ask-read _ _ (right l) _ _ (e .before .before .before .read16 .ensures .0) (e .before .read162 .ensures .0) (e .before .before .if2 .left) (e .if3 .left)
-    (start (l .before) .args .full) (now (start (l .before) .args .out)) _ _ (a .ask-named .ensures)
+    (start (l .before) .args .full) (now (start (l .before) .args .out)) _ _ (a .ask-small .ensures)
+
+ask-large-requires : tie.Need-ask-large-requires
+ask-large-requires c κs = owned (c .before .before .before)
+
+same-length-2 : tie.Need-same-length-2
+same-length-2 c = search needs
+
+returns-5 : tie.Need-returns-5
+returns-5 c =
+    let a = c .before .before in
+    let e = a .before .before .before .before in
+    let l = e .before .before .before .before in
+    ask-read _ _ (right l) _ _ (e .before .before .before .read16 .ensures .0) (e .before .read162 .ensures .0) (e .before .before .if2 .left) (e .if3 .left)
+    (start (l .before) .args .full) (now (start (l .before) .args .out)) _ _ (a .ask-large .ensures)
 
 pub ask-spec : {M : Type 1} → statement M
 ask-spec =
@@ -66,8 +78,10 @@ ask-spec =
     returns-2
     read16-requires-2
     returns-3
-    sub-ask-named
-    sub-ask-named-2
-    ask-named-requires
+    fits-requires
+    ask-small-requires
     same-length
-    returns-4)
+    returns-4
+    ask-large-requires
+    same-length-2
+    returns-5)

@@ -1,106 +1,301 @@
--- The names are numbered, and the question is asked by their numbers.
-use mathlib.Core.Path.{refl}
-use Prim.Native.Nat.{_≤_, _<_}
-use lib.ListN.{length-take}
-use denote.Ref.{now}
-use Rattle.record.proofs.Laws.{decode-held}
-use Rattle.search.proofs.Asking.{numberable-read, counts-read, questioned-read, replies-read}
+-- The names are numbered, and the question is asked by their numbers, in the fronts of the tables.
 use native.Mathlib.Omega.{arith}
+use mathlib.Core.Path.{_≡_, sym, _∙_}
+use Prim.Native.Nat.{_+_, _-_, _≤_, _<_}
+use lib.ListN.{length}
+use lib.Seq.{length-take-le}
+use denote.Ref.{now}
+use Rattle.model.specs.Numbers.{number}
+use Rattle.record.proofs.Laws.{decode-held}
+use Rattle.search.proofs.Asking.{numberable-read, questioned-read, replies-read, Counted, counted, front-back}
 use borrow.Author.Needs.{needs}
 use Rattle.search.proofs.question.ask_named.Statement.{statement}
 use Rattle.search.proofs.question.ask_named.Tie as tie
 
-abbrev named : tie.After-read162 → tie.Start
-named c = c .before .before .before .before .before
+abbrev start : tie.After-read162 → tie.Start
+start c = c .before .before .before .before .before .before .before .before .before .before .before .before .before .before .before .before .before .before .before .before .before
 
-abbrev counted : tie.After-number-names → tie.After-read162
-counted c = c .before .before .before .before .before
+abbrev counting : tie.After-number-names → tie.After-read162
+counting c = c .before .before .before .before .before
 
-counts : (c : tie.After-read162) → (c .before .read16 .result ≤ 512) × (c .read162 .result ≤ 512) × (named c .args .p < c .before .read16 .result) × (named c .args .q < c .read162 .result)
-counts c = counts-read _ _ _ _ (named c .pre) _ _ (c .before .read16 .ensures .0) (c .read162 .ensures .0)
+abbrev first : tie.After-number-names → tie.Start
+first n = start (counting n)
 
-total : (c : tie.After-number-names) → c .number-names .result ≤ 1024
-total c = omega (arith, c .number-names .ensures .few, counts (counted c))
+counts : (n : tie.After-number-names) → Counted (now (first n .args .b)) (now (first n .args .c))
+counts n = counted _ _ (first n .pre .0)
+
+names-fit : (n : tie.After-number-names) → counting n .before .read16 .result + counting n .read162 .result ≤ length (now (first n .args .firsts))
+names-fit n = omega (arith, first n .pre .1 .0 .names-fit, counting n .before .read16 .ensures .0, counting n .read162 .ensures .0)
+
+few : (n : tie.After-number-names) → n .number-names .result < 65536
+few n = omega (arith, n .number-names .ensures .few, counting n .before .read16 .ensures .0, counting n .read162 .ensures .0, counts n .first-few, counts n .second-few)
+
+within : (n : tie.After-number-names) → n .number-names .result ≤ length (now (first n .args .firsts))
+within n = omega (arith, n .number-names .ensures .few, names-fit n)
+
+seconds-size : (n : tie.After-number-names) → length (n .number-names .last .1 .1 .1 .1 .1 .0) ≡ length (n .number-names .last .1 .1 .1 .1 .0)
+seconds-size n = n .number-names .kept .1 .1 .1 .1 .1 .0 ∙ first n .pre .1 .1 .0 .seconds-size ∙ sym (n .number-names .kept .1 .1 .1 .1 .0)
+
+ones-size : (n : tie.After-number-names) → length (n .number-names .last .1 .1 .1 .1 .1 .1 .0) ≡ length (n .number-names .last .1 .1 .1 .1 .0)
+ones-size n = n .number-names .kept .1 .1 .1 .1 .1 .1 .0 ∙ first n .pre .1 .1 .0 .ones-size ∙ sym (n .number-names .kept .1 .1 .1 .1 .0)
+
+twos-size : (n : tie.After-number-names) → length (n .number-names .last .1 .1 .1 .1 .1 .1 .1 .0) ≡ length (n .number-names .last .1 .1 .1 .1 .0)
+twos-size n = n .number-names .kept .1 .1 .1 .1 .1 .1 .1 .0 ∙ first n .pre .1 .1 .0 .twos-size ∙ sym (n .number-names .kept .1 .1 .1 .1 .0)
+
+in-firsts : (n : tie.After-number-names) → n .number-names .result ≤ length (n .number-names .last .1 .1 .1 .1 .0)
+in-firsts n = omega (arith, within n, n .number-names .kept .1 .1 .1 .1 .0)
+
+in-seconds : (n : tie.After-number-names) → n .number-names .result ≤ length (n .number-names .last .1 .1 .1 .1 .1 .0)
+in-seconds n = omega (arith, in-firsts n, seconds-size n)
+
+in-ones : (n : tie.After-number-names) → counting n .before .read16 .result ≤ length (n .number-names .last .1 .1 .1 .1 .1 .1 .0)
+in-ones n = omega (arith, names-fit n, ones-size n, n .number-names .kept .1 .1 .1 .1 .0)
+
+in-twos : (n : tie.After-number-names) → counting n .read162 .result ≤ length (n .number-names .last .1 .1 .1 .1 .1 .1 .1 .0)
+in-twos n = omega (arith, names-fit n, twos-size n, n .number-names .kept .1 .1 .1 .1 .0)
+
+room : (n : tie.After-number-names) → number (now (first n .args .b)) 0 + number (now (first n .args .c)) 0 ≤ length (n .number-names .last .1 .1 .1 .1 .0)
+room n = omega (arith, first n .pre .1 .0 .names-fit, n .number-names .kept .1 .1 .1 .1 .0)
+
+in-starts : (n : tie.After-number-names) → n .number-names .result ≤ length (now (first n .args .starts))
+in-starts n = omega (arith, within n, first n .pre .1 .1 .0 .starts-size)
+
+in-ends : (n : tie.After-number-names) → n .number-names .result ≤ length (now (first n .args .ends))
+in-ends n = omega (arith, within n, first n .pre .1 .1 .0 .ends-size)
+
+in-starts2 : (n : tie.After-number-names) → n .number-names .result ≤ length (now (first n .args .starts2))
+in-starts2 n = omega (arith, within n, first n .pre .1 .1 .0 .starts′-size)
+
+in-ends2 : (n : tie.After-number-names) → n .number-names .result ≤ length (now (first n .args .ends2))
+in-ends2 n = omega (arith, within n, first n .pre .1 .1 .0 .ends′-size)
+
+in-nodes : (n : tie.After-number-names) → n .number-names .result ≤ length (now (first n .args .nodes))
+in-nodes n = omega (arith, within n, first n .pre .1 .1 .0 .nodes-size)
+
+in-parents : (n : tie.After-number-names) → n .number-names .result ≤ length (now (first n .args .parents))
+in-parents n = omega (arith, within n, first n .pre .1 .1 .0 .parents-size)
+
+in-kinds : (n : tie.After-number-names) → n .number-names .result ≤ length (now (first n .args .kinds))
+in-kinds n = omega (arith, within n, first n .pre .1 .1 .0 .kinds-size)
+
+in-places : (n : tie.After-number-names) → n .number-names .result ≤ length (now (first n .args .places))
+in-places n = omega (arith, within n, first n .pre .1 .1 .0 .places-size)
+
+abbrev own-read : tie.After-read163 → tie.After-number-names
+own-read c = c .before .before .before .before .before .before .before .before .before
+
+abbrev other-read : tie.After-read164 → tie.After-number-names
+other-read c = c .before .before .before .before .before .before .before .before .before .before .before
+
+from-in : (c : tie.After-read163) → c .read163 .result - 1 < counting (own-read c) .before .read16 .result
+from-in c = omega (arith, c .read163 .ensures .0, counts (own-read c) .from, counting (own-read c) .before .read16 .ensures .0)
+
+to-in : (c : tie.After-read164) → c .read164 .result - 1 < counting (other-read c) .read162 .result
+to-in c = omega (arith, c .read164 .ensures .0, counts (other-read c) .to, counting (other-read c) .read162 .ensures .0)
 
 read16-requires : tie.Need-read16-requires
-read16-requires c κs = let s = c .before .before .before in omega (arith, decode-held _ _ (s .pre .first) .long)
+read16-requires c κs = let s = c .before .before .before .before .before .before .before .before .before .before .before .before .before .before .before .before .before .before .before in omega (arith, decode-held _ _ (s .pre .0 .named .first) .long)
 
 read16-requires-2 : tie.Need-read16-requires-2
-read16-requires-2 c κs = let s = c .before .before .before .before in omega (arith, decode-held _ _ (s .pre .second) .long)
-
-slice-aggregate-number-names : tie.Need-slice-aggregate-number-names
-slice-aggregate-number-names c = search needs
-
-slice-aggregate-number-names-2 : tie.Need-slice-aggregate-number-names-2
-slice-aggregate-number-names-2 c = search needs
-
-slice-aggregate-number-names-3 : tie.Need-slice-aggregate-number-names-3
-slice-aggregate-number-names-3 c = search needs
-
-slice-aggregate-number-names-4 : tie.Need-slice-aggregate-number-names-4
-slice-aggregate-number-names-4 c = search needs
+read16-requires-2 c κs = let s = c .before .before .before .before .before .before .before .before .before .before .before .before .before .before .before .before .before .before .before .before in omega (arith, decode-held _ _ (s .pre .0 .named .second) .long)
 
 number-names-requires : tie.Need-number-names-requires
-number-names-requires c κs = let r = c .before .before .before .before in numberable-read _ _ _ _ (named r .pre) _ _ (r .before .read16 .ensures .0) (r .read162 .ensures .0) _ _ _ _ refl refl refl refl
+number-names-requires c κs =
+    let r = c .before .before .before .before in
+    let s = start r in
+    numberable-read _ _ (s .pre .0) _ _ (r .before .read16 .ensures .0) (r .read162 .ensures .0) _ _ _ _ (s .pre .1 .0 .names-fit) (s .pre .1 .1 .0 .seconds-size) (s .pre .1 .1 .0 .ones-size) (s .pre .1 .1 .0 .twos-size)
+
+read16-requires-3 : tie.Need-read16-requires-3
+read16-requires-3 c κs = let n = c .before .before .before .before .before .before .before .before in omega (arith, decode-held _ _ (first n .pre .0 .named .first) .long)
+
+sub-from : tie.Need-sub-from
+sub-from c = omega (arith, c .read163 .ensures .0, first (own-read c) .pre .0 .own)
 
 mul-from : tie.Need-mul-from
-mul-from c = let s = c .before .before .before .before in omega (arith, counts (counted s))
+mul-from c = search needs
 
-array-read-from : tie.Need-array-read-from
-array-read-from c = let s = c .before .before .before .before in omega (arith, counts (counted s), s .number-names .kept .1 .1 .1 .1 .1 .1 .0)
+slice-read-from : tie.Need-slice-read-from
+slice-read-from c = omega (arith, from-in (c .before), in-ones (own-read (c .before)))
 
 cast-from : tie.Need-cast-from
-cast-from c = let s = c .before .before .before .before in omega (arith, s .number-names .ensures .ones-in _ (counts (counted s) .2) .0, total s)
+cast-from c = let n = own-read (c .before) in omega (arith, n .number-names .ensures .ones-in _ (from-in (c .before)) .0, few n)
+
+read16-requires-4 : tie.Need-read16-requires-4
+read16-requires-4 c κs = let n = own-read (c .before) in omega (arith, decode-held _ _ (first n .pre .0 .named .second) .long)
+
+sub-to : tie.Need-sub-to
+sub-to c = omega (arith, c .read164 .ensures .0, first (other-read c) .pre .0 .other)
 
 mul-to : tie.Need-mul-to
-mul-to c = let s = c .before .before .before .before in omega (arith, counts (counted s))
+mul-to c = search needs
 
-array-read-to : tie.Need-array-read-to
-array-read-to c = let s = c .before .before .before .before in omega (arith, counts (counted s), s .number-names .kept .1 .1 .1 .1 .1 .1 .1 .0)
+slice-read-to : tie.Need-slice-read-to
+slice-read-to c = omega (arith, to-in (c .before), in-twos (other-read (c .before)))
 
 cast-to : tie.Need-cast-to
-cast-to c = let s = c .before .before .before .before in omega (arith, s .number-names .ensures .twos-in _ (counts (counted s) .3) .0, total s)
+cast-to c = let n = other-read (c .before) in omega (arith, n .number-names .ensures .twos-in _ (to-in (c .before)) .0, few n)
 
-array-share-prefix-firsts : tie.Need-array-share-prefix-firsts
-array-share-prefix-firsts c = let s = c .before .before .before .before in omega (arith, total s, s .number-names .kept .1 .1 .1 .1 .0)
+slice-reshare-prefix-ask-numbered : tie.Need-slice-reshare-prefix-ask-numbered
+slice-reshare-prefix-ask-numbered c = in-firsts (c .before .before .before .before .before .before .before .before .before .before .before .before)
 
 slice-aggregate-ask-numbered : tie.Need-slice-aggregate-ask-numbered
-slice-aggregate-ask-numbered c = let s = c .before .before .before .before .before in simp length-take (omega (arith, s .number-names .kept .1 .1 .1 .1 .0, total s))
+slice-aggregate-ask-numbered c = sym (length-take-le _ _ (in-firsts (c .before .before .before .before .before .before .before .before .before .before .before .before .before)))
 
-array-share-prefix-seconds : tie.Need-array-share-prefix-seconds
-array-share-prefix-seconds c = let s = c .before .before .before .before .before in omega (arith, total s, s .number-names .kept .1 .1 .1 .1 .1 .0)
+slice-reshare-prefix-ask-numbered-2 : tie.Need-slice-reshare-prefix-ask-numbered-2
+slice-reshare-prefix-ask-numbered-2 c = in-seconds (c .before .before .before .before .before .before .before .before .before .before .before .before .before)
 
 slice-aggregate-ask-numbered-2 : tie.Need-slice-aggregate-ask-numbered-2
-slice-aggregate-ask-numbered-2 c = let s = c .before .before .before .before .before .before in simp length-take (omega (arith, s .number-names .kept .1 .1 .1 .1 .1 .0, total s))
+slice-aggregate-ask-numbered-2 c = sym (length-take-le _ _ (in-seconds (c .before .before .before .before .before .before .before .before .before .before .before .before .before .before)))
 
-array-share-prefix-ones : tie.Need-array-share-prefix-ones
-array-share-prefix-ones c = let s = c .before .before .before .before .before .before in omega (arith, counts (counted s), s .number-names .kept .1 .1 .1 .1 .1 .1 .0)
+slice-reshare-prefix-ask-numbered-3 : tie.Need-slice-reshare-prefix-ask-numbered-3
+slice-reshare-prefix-ask-numbered-3 c = in-ones (c .before .before .before .before .before .before .before .before .before .before .before .before .before .before)
 
 slice-aggregate-ask-numbered-3 : tie.Need-slice-aggregate-ask-numbered-3
-slice-aggregate-ask-numbered-3 c = let s = c .before .before .before .before .before .before .before in simp length-take (omega (arith, s .number-names .kept .1 .1 .1 .1 .1 .1 .0, counts (counted s)))
+slice-aggregate-ask-numbered-3 c = sym (length-take-le _ _ (in-ones (c .before .before .before .before .before .before .before .before .before .before .before .before .before .before .before)))
 
-array-share-prefix-twos : tie.Need-array-share-prefix-twos
-array-share-prefix-twos c = let s = c .before .before .before .before .before .before .before in omega (arith, counts (counted s), s .number-names .kept .1 .1 .1 .1 .1 .1 .1 .0)
+slice-reshare-prefix-ask-numbered-4 : tie.Need-slice-reshare-prefix-ask-numbered-4
+slice-reshare-prefix-ask-numbered-4 c = in-twos (c .before .before .before .before .before .before .before .before .before .before .before .before .before .before .before)
 
 slice-aggregate-ask-numbered-4 : tie.Need-slice-aggregate-ask-numbered-4
-slice-aggregate-ask-numbered-4 c = let s = c .before .before .before .before .before .before .before .before in simp length-take (omega (arith, s .number-names .kept .1 .1 .1 .1 .1 .1 .1 .0, counts (counted s)))
+slice-aggregate-ask-numbered-4 c = sym (length-take-le _ _ (in-twos (c .before .before .before .before .before .before .before .before .before .before .before .before .before .before .before .before)))
+
+slice-relend-prefix-ask-numbered : tie.Need-slice-relend-prefix-ask-numbered
+slice-relend-prefix-ask-numbered c = in-starts (c .before .before .before .before .before .before .before .before .before .before .before .before .before .before .before .before .before .before)
+
+slice-aggregate-ask-numbered-5 : tie.Need-slice-aggregate-ask-numbered-5
+slice-aggregate-ask-numbered-5 c = sym (length-take-le _ _ (in-starts (c .before .before .before .before .before .before .before .before .before .before .before .before .before .before .before .before .before .before .before)))
+
+slice-relend-prefix-ask-numbered-2 : tie.Need-slice-relend-prefix-ask-numbered-2
+slice-relend-prefix-ask-numbered-2 c = in-ends (c .before .before .before .before .before .before .before .before .before .before .before .before .before .before .before .before .before .before .before)
+
+slice-aggregate-ask-numbered-6 : tie.Need-slice-aggregate-ask-numbered-6
+slice-aggregate-ask-numbered-6 c = sym (length-take-le _ _ (in-ends (c .before .before .before .before .before .before .before .before .before .before .before .before .before .before .before .before .before .before .before .before)))
+
+slice-relend-prefix-ask-numbered-3 : tie.Need-slice-relend-prefix-ask-numbered-3
+slice-relend-prefix-ask-numbered-3 c = in-starts2 (c .before .before .before .before .before .before .before .before .before .before .before .before .before .before .before .before .before .before .before .before .before)
+
+slice-aggregate-ask-numbered-7 : tie.Need-slice-aggregate-ask-numbered-7
+slice-aggregate-ask-numbered-7 c = sym (length-take-le _ _ (in-starts2 (c .before .before .before .before .before .before .before .before .before .before .before .before .before .before .before .before .before .before .before .before .before .before)))
+
+slice-relend-prefix-ask-numbered-4 : tie.Need-slice-relend-prefix-ask-numbered-4
+slice-relend-prefix-ask-numbered-4 c = in-ends2 (c .before .before .before .before .before .before .before .before .before .before .before .before .before .before .before .before .before .before .before .before .before .before)
+
+slice-aggregate-ask-numbered-8 : tie.Need-slice-aggregate-ask-numbered-8
+slice-aggregate-ask-numbered-8 c = sym (length-take-le _ _ (in-ends2 (c .before .before .before .before .before .before .before .before .before .before .before .before .before .before .before .before .before .before .before .before .before .before .before)))
+
+slice-relend-prefix-ask-numbered-5 : tie.Need-slice-relend-prefix-ask-numbered-5
+slice-relend-prefix-ask-numbered-5 c = in-nodes (c .before .before .before .before .before .before .before .before .before .before .before .before .before .before .before .before .before .before .before .before .before .before .before .before)
+
+slice-aggregate-ask-numbered-9 : tie.Need-slice-aggregate-ask-numbered-9
+slice-aggregate-ask-numbered-9 c = sym (length-take-le _ _ (in-nodes (c .before .before .before .before .before .before .before .before .before .before .before .before .before .before .before .before .before .before .before .before .before .before .before .before .before)))
+
+slice-relend-prefix-ask-numbered-6 : tie.Need-slice-relend-prefix-ask-numbered-6
+slice-relend-prefix-ask-numbered-6 c = in-parents (c .before .before .before .before .before .before .before .before .before .before .before .before .before .before .before .before .before .before .before .before .before .before .before .before .before)
+
+slice-aggregate-ask-numbered-10 : tie.Need-slice-aggregate-ask-numbered-10
+slice-aggregate-ask-numbered-10 c = sym (length-take-le _ _ (in-parents (c .before .before .before .before .before .before .before .before .before .before .before .before .before .before .before .before .before .before .before .before .before .before .before .before .before .before)))
+
+slice-relend-prefix-ask-numbered-7 : tie.Need-slice-relend-prefix-ask-numbered-7
+slice-relend-prefix-ask-numbered-7 c = in-kinds (c .before .before .before .before .before .before .before .before .before .before .before .before .before .before .before .before .before .before .before .before .before .before .before .before .before .before)
+
+slice-aggregate-ask-numbered-11 : tie.Need-slice-aggregate-ask-numbered-11
+slice-aggregate-ask-numbered-11 c = sym (length-take-le _ _ (in-kinds (c .before .before .before .before .before .before .before .before .before .before .before .before .before .before .before .before .before .before .before .before .before .before .before .before .before .before .before)))
+
+slice-relend-prefix-ask-numbered-8 : tie.Need-slice-relend-prefix-ask-numbered-8
+slice-relend-prefix-ask-numbered-8 c = in-places (c .before .before .before .before .before .before .before .before .before .before .before .before .before .before .before .before .before .before .before .before .before .before .before .before .before .before .before)
+
+slice-aggregate-ask-numbered-12 : tie.Need-slice-aggregate-ask-numbered-12
+slice-aggregate-ask-numbered-12 c = sym (length-take-le _ _ (in-places (c .before .before .before .before .before .before .before .before .before .before .before .before .before .before .before .before .before .before .before .before .before .before .before .before .before .before .before .before)))
 
 ask-numbered-requires : tie.Need-ask-numbered-requires
 ask-numbered-requires c κs =
-    let s = c .before .before .before .before .before .before .before .before .before in
-    questioned-read _ _ _ _ (named (counted s) .pre) _ _ (counted s .before .read16 .ensures .0) (counted s .read162 .ensures .0) _ _ _ _ _ (s .number-names .ensures)
-    (s .number-names .kept .1 .1 .1 .1 .0) (s .number-names .kept .1 .1 .1 .1 .1 .0) (s .number-names .kept .1 .1 .1 .1 .1 .1 .0) (s .number-names .kept .1 .1 .1 .1 .1 .1 .1 .0)
+    let q = c .before .before .before .before .before .before .before .before .before .before .before .before .before .before .before .before .before .before in
+    let p = q .before .before in
+    let n = other-read q in
+    let same = length-take-le _ _ (in-places n) in (
+      questioned-read _ _ (first n .pre .0) _ _ (counting n .before .read16 .ensures .0) (counting n .read162 .ensures .0) _ _ _ _ (room n) (seconds-size n) (ones-size n) (twos-size n) _ (n .number-names .ensures)
+          _ _ (p .read163 .ensures .0) (q .read164 .ensures .0),
+      (
+        (first n .pre .1 .0 .pairs-fit, first n .pre .1 .1 .1),
+        (
+          record {
+            starts-size = length-take-le _ _ (in-starts n) ∙ sym (length-take-le _ _ (in-firsts n));
+            ends-size = length-take-le _ _ (in-ends n) ∙ sym (length-take-le _ _ (in-firsts n));
+            starts′-size = length-take-le _ _ (in-starts2 n) ∙ sym (length-take-le _ _ (in-firsts n));
+            ends′-size = length-take-le _ _ (in-ends2 n) ∙ sym (length-take-le _ _ (in-firsts n));
+          },
+          (
+            record {
+              nodes = length-take-le _ _ (in-nodes n) ∙ sym same;
+              parents = length-take-le _ _ (in-parents n) ∙ sym same;
+              kinds = length-take-le _ _ (in-kinds n) ∙ sym same;
+              small = omega (arith, same, few n);
+            },
+            same ∙ sym (length-take-le _ _ (in-firsts n)),
+          ),
+        ),
+      ),
+    )
 
 same-length : tie.Need-same-length
-same-length c = search needs
+same-length c = let n = other-read (c .before .before .before .before .before .before .before .before .before .before .before .before .before .before .before .before .before .before .before .before .before .before .before .before .before .before .before .before .before .before .before .before .before .before .before .before .before .before .before .before .before .before .before .before .before) in n .number-names .kept .1 .1 .1 .1 .0
+
+same-length-2 : tie.Need-same-length-2
+same-length-2 c = let n = other-read (c .before .before .before .before .before .before .before .before .before .before .before .before .before .before .before .before .before .before .before .before .before .before .before .before .before .before .before .before .before .before .before .before .before .before .before .before .before .before .before .before .before .before .before .before .before) in n .number-names .kept .1 .1 .1 .1 .1 .0
+
+same-length-3 : tie.Need-same-length-3
+same-length-3 c = let n = other-read (c .before .before .before .before .before .before .before .before .before .before .before .before .before .before .before .before .before .before .before .before .before .before .before .before .before .before .before .before .before .before .before .before .before .before .before .before .before .before .before .before .before .before .before .before .before) in n .number-names .kept .1 .1 .1 .1 .1 .1 .0
+
+same-length-4 : tie.Need-same-length-4
+same-length-4 c = let n = other-read (c .before .before .before .before .before .before .before .before .before .before .before .before .before .before .before .before .before .before .before .before .before .before .before .before .before .before .before .before .before .before .before .before .before .before .before .before .before .before .before .before .before .before .before .before .before) in n .number-names .kept .1 .1 .1 .1 .1 .1 .1 .0
+
+same-length-5 : tie.Need-same-length-5
+same-length-5 c = c .before .before .before .before .before .before .before .before .before .before .before .before .before .before .before .before .before .before .before .before .before .before .before .before .before .before .ask-numbered .kept .1 .1 .1 .1 .1 .1 .1 .1 .1 .0
+
+same-length-6 : tie.Need-same-length-6
+same-length-6 c = c .before .before .before .before .before .before .before .before .before .before .before .before .before .before .before .before .before .before .before .before .before .before .before .before .before .before .ask-numbered .kept .1 .1 .1 .1 .1 .1 .1 .1 .1 .1 .0
+
+same-length-7 : tie.Need-same-length-7
+same-length-7 c = let n = other-read (c .before .before .before .before .before .before .before .before .before .before .before .before .before .before .before .before .before .before .before .before .before .before .before .before .before .before .before .before .before .before .before .before .before .before .before .before .before .before .before .before .before .before .before .before .before) in front-back (c .before .before .before .before .before .before .before .before .before .before .before .before .before .before .before .before .before .before .before .before .before .before .before .before .before .before .ask-numbered .last .1 .1 .1 .1 .1 .1 .1 .1 .1 .1 .1 .0) _ _ (in-starts n) (c .before .before .before .before .before .before .before .before .before .before .before .before .before .before .before .before .before .before .before .before .before .before .before .before .before .before .ask-numbered .kept .1 .1 .1 .1 .1 .1 .1 .1 .1 .1 .1 .0)
+
+same-length-8 : tie.Need-same-length-8
+same-length-8 c = let n = other-read (c .before .before .before .before .before .before .before .before .before .before .before .before .before .before .before .before .before .before .before .before .before .before .before .before .before .before .before .before .before .before .before .before .before .before .before .before .before .before .before .before .before .before .before .before .before) in front-back (c .before .before .before .before .before .before .before .before .before .before .before .before .before .before .before .before .before .before .before .before .before .before .before .before .before .before .ask-numbered .last .1 .1 .1 .1 .1 .1 .1 .1 .1 .1 .1 .1 .0) _ _ (in-ends n) (c .before .before .before .before .before .before .before .before .before .before .before .before .before .before .before .before .before .before .before .before .before .before .before .before .before .before .ask-numbered .kept .1 .1 .1 .1 .1 .1 .1 .1 .1 .1 .1 .1 .0)
+
+same-length-9 : tie.Need-same-length-9
+same-length-9 c = c .before .before .before .before .before .before .before .before .before .before .before .before .before .before .before .before .before .before .before .before .before .before .before .before .before .before .ask-numbered .kept .1 .1 .1 .1 .1 .1 .1 .1 .1 .1 .1 .1 .1 .0
+
+same-length-10 : tie.Need-same-length-10
+same-length-10 c = let n = other-read (c .before .before .before .before .before .before .before .before .before .before .before .before .before .before .before .before .before .before .before .before .before .before .before .before .before .before .before .before .before .before .before .before .before .before .before .before .before .before .before .before .before .before .before .before .before) in front-back (c .before .before .before .before .before .before .before .before .before .before .before .before .before .before .before .before .before .before .before .before .before .before .before .before .before .before .ask-numbered .last .1 .1 .1 .1 .1 .1 .1 .1 .1 .1 .1 .1 .1 .1 .0) _ _ (in-starts2 n) (c .before .before .before .before .before .before .before .before .before .before .before .before .before .before .before .before .before .before .before .before .before .before .before .before .before .before .ask-numbered .kept .1 .1 .1 .1 .1 .1 .1 .1 .1 .1 .1 .1 .1 .1 .0)
+
+same-length-11 : tie.Need-same-length-11
+same-length-11 c = let n = other-read (c .before .before .before .before .before .before .before .before .before .before .before .before .before .before .before .before .before .before .before .before .before .before .before .before .before .before .before .before .before .before .before .before .before .before .before .before .before .before .before .before .before .before .before .before .before) in front-back (c .before .before .before .before .before .before .before .before .before .before .before .before .before .before .before .before .before .before .before .before .before .before .before .before .before .before .ask-numbered .last .1 .1 .1 .1 .1 .1 .1 .1 .1 .1 .1 .1 .1 .1 .1 .0) _ _ (in-ends2 n) (c .before .before .before .before .before .before .before .before .before .before .before .before .before .before .before .before .before .before .before .before .before .before .before .before .before .before .ask-numbered .kept .1 .1 .1 .1 .1 .1 .1 .1 .1 .1 .1 .1 .1 .1 .1 .0)
+
+same-length-12 : tie.Need-same-length-12
+same-length-12 c = c .before .before .before .before .before .before .before .before .before .before .before .before .before .before .before .before .before .before .before .before .before .before .before .before .before .before .ask-numbered .kept .1 .1 .1 .1 .1 .1 .1 .1 .1 .1 .1 .1 .1 .1 .1 .1 .0
+
+same-length-13 : tie.Need-same-length-13
+same-length-13 c = let n = other-read (c .before .before .before .before .before .before .before .before .before .before .before .before .before .before .before .before .before .before .before .before .before .before .before .before .before .before .before .before .before .before .before .before .before .before .before .before .before .before .before .before .before .before .before .before .before) in front-back (c .before .before .before .before .before .before .before .before .before .before .before .before .before .before .before .before .before .before .before .before .before .before .before .before .before .before .ask-numbered .last .1 .1 .1 .1 .1 .1 .1 .1 .1 .1 .1 .1 .1 .1 .1 .1 .1 .0) _ _ (in-nodes n) (c .before .before .before .before .before .before .before .before .before .before .before .before .before .before .before .before .before .before .before .before .before .before .before .before .before .before .ask-numbered .kept .1 .1 .1 .1 .1 .1 .1 .1 .1 .1 .1 .1 .1 .1 .1 .1 .1 .0)
+
+same-length-14 : tie.Need-same-length-14
+same-length-14 c = let n = other-read (c .before .before .before .before .before .before .before .before .before .before .before .before .before .before .before .before .before .before .before .before .before .before .before .before .before .before .before .before .before .before .before .before .before .before .before .before .before .before .before .before .before .before .before .before .before) in front-back (c .before .before .before .before .before .before .before .before .before .before .before .before .before .before .before .before .before .before .before .before .before .before .before .before .before .before .ask-numbered .last .1 .1 .1 .1 .1 .1 .1 .1 .1 .1 .1 .1 .1 .1 .1 .1 .1 .1 .0) _ _ (in-parents n) (c .before .before .before .before .before .before .before .before .before .before .before .before .before .before .before .before .before .before .before .before .before .before .before .before .before .before .ask-numbered .kept .1 .1 .1 .1 .1 .1 .1 .1 .1 .1 .1 .1 .1 .1 .1 .1 .1 .1 .0)
+
+same-length-15 : tie.Need-same-length-15
+same-length-15 c = let n = other-read (c .before .before .before .before .before .before .before .before .before .before .before .before .before .before .before .before .before .before .before .before .before .before .before .before .before .before .before .before .before .before .before .before .before .before .before .before .before .before .before .before .before .before .before .before .before) in front-back (c .before .before .before .before .before .before .before .before .before .before .before .before .before .before .before .before .before .before .before .before .before .before .before .before .before .before .ask-numbered .last .1 .1 .1 .1 .1 .1 .1 .1 .1 .1 .1 .1 .1 .1 .1 .1 .1 .1 .1 .0) _ _ (in-kinds n) (c .before .before .before .before .before .before .before .before .before .before .before .before .before .before .before .before .before .before .before .before .before .before .before .before .before .before .ask-numbered .kept .1 .1 .1 .1 .1 .1 .1 .1 .1 .1 .1 .1 .1 .1 .1 .1 .1 .1 .1 .0)
+
+same-length-16 : tie.Need-same-length-16
+same-length-16 c = let n = other-read (c .before .before .before .before .before .before .before .before .before .before .before .before .before .before .before .before .before .before .before .before .before .before .before .before .before .before .before .before .before .before .before .before .before .before .before .before .before .before .before .before .before .before .before .before .before) in front-back (c .before .before .before .before .before .before .before .before .before .before .before .before .before .before .before .before .before .before .before .before .before .before .before .before .before .before .ask-numbered .last .1 .1 .1 .1 .1 .1 .1 .1 .1 .1 .1 .1 .1 .1 .1 .1 .1 .1 .1 .1 .0) _ _ (in-places n) (c .before .before .before .before .before .before .before .before .before .before .before .before .before .before .before .before .before .before .before .before .before .before .before .before .before .before .ask-numbered .kept .1 .1 .1 .1 .1 .1 .1 .1 .1 .1 .1 .1 .1 .1 .1 .1 .1 .1 .1 .1 .0)
+
+same-length-17 : tie.Need-same-length-17
+same-length-17 c = search needs
 
 returns : tie.Need-returns
 returns c =
-    let a = c .before .before in
-    let s = a .before .before .before .before .before .before .before .before .before .before in
-    replies-read _ _ _ _ (named (counted s) .pre) _ _ (counted s .before .read16 .ensures .0) (counted s .read162 .ensures .0) _ _ _ _ _ (s .number-names .ensures)
-    (s .number-names .kept .1 .1 .1 .1 .0) (s .number-names .kept .1 .1 .1 .1 .1 .0) (s .number-names .kept .1 .1 .1 .1 .1 .1 .0) (s .number-names .kept .1 .1 .1 .1 .1 .1 .1 .0)
-    (named (counted s) .args .full) (now (named (counted s) .args .out)) _ _ (a .ask-numbered .ensures)
+    let a = c .before .before .before .before .before .before .before .before .before .before .before .before .before .before .before .before .before .before .before .before .before .before .before .before .before .before in
+    let q = a .before .before .before .before .before .before .before .before .before .before .before .before .before .before .before .before .before .before .before in
+    let p = q .before .before in
+    let n = other-read q in
+    replies-read _ _ (first n .pre .0) _ _ (counting n .before .read16 .ensures .0) (counting n .read162 .ensures .0) _ _ _ _ (room n) (seconds-size n) (ones-size n) (twos-size n) _ (n .number-names .ensures)
+    _ _ (p .read163 .ensures .0) (q .read164 .ensures .0) (first n .args .full) (now (first n .args .out)) _ _ (a .ask-numbered .ensures)
 
 pub ask-named-spec : {M : Type 1} → statement M
 ask-named-spec =
@@ -108,25 +303,57 @@ ask-named-spec =
     (tie.spec
     read16-requires
     read16-requires-2
-    slice-aggregate-number-names
-    slice-aggregate-number-names-2
-    slice-aggregate-number-names-3
-    slice-aggregate-number-names-4
     number-names-requires
+    read16-requires-3
+    sub-from
     mul-from
-    array-read-from
+    slice-read-from
     cast-from
+    read16-requires-4
+    sub-to
     mul-to
-    array-read-to
+    slice-read-to
     cast-to
-    array-share-prefix-firsts
+    slice-reshare-prefix-ask-numbered
     slice-aggregate-ask-numbered
-    array-share-prefix-seconds
+    slice-reshare-prefix-ask-numbered-2
     slice-aggregate-ask-numbered-2
-    array-share-prefix-ones
+    slice-reshare-prefix-ask-numbered-3
     slice-aggregate-ask-numbered-3
-    array-share-prefix-twos
+    slice-reshare-prefix-ask-numbered-4
     slice-aggregate-ask-numbered-4
+    slice-relend-prefix-ask-numbered
+    slice-aggregate-ask-numbered-5
+    slice-relend-prefix-ask-numbered-2
+    slice-aggregate-ask-numbered-6
+    slice-relend-prefix-ask-numbered-3
+    slice-aggregate-ask-numbered-7
+    slice-relend-prefix-ask-numbered-4
+    slice-aggregate-ask-numbered-8
+    slice-relend-prefix-ask-numbered-5
+    slice-aggregate-ask-numbered-9
+    slice-relend-prefix-ask-numbered-6
+    slice-aggregate-ask-numbered-10
+    slice-relend-prefix-ask-numbered-7
+    slice-aggregate-ask-numbered-11
+    slice-relend-prefix-ask-numbered-8
+    slice-aggregate-ask-numbered-12
     ask-numbered-requires
     same-length
+    same-length-2
+    same-length-3
+    same-length-4
+    same-length-5
+    same-length-6
+    same-length-7
+    same-length-8
+    same-length-9
+    same-length-10
+    same-length-11
+    same-length-12
+    same-length-13
+    same-length-14
+    same-length-15
+    same-length-16
+    same-length-17
     returns)
