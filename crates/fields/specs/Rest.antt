@@ -14,6 +14,7 @@ use Rattle.fields.specs.declared.field.Source.{Source}
 use Rattle.fields.specs.declared.field.Source.the-variants.{Header, Tag}
 use Rattle.fields.specs.declared.field.Content.{Content}
 use Rattle.fields.specs.declared.step.Tally.{Tally}
+use Rattle.fields.specs.declared.step.Field.{Field}
 use Rattle.fields.specs.declared.step.FieldRead.{FieldRead}
 
 -- the lines from a place on
@@ -55,6 +56,17 @@ lineRead content start size stop tally = record {
   size = size;
   at = stop;
   stop = stop;
+  tally = tally;
+}
+
+-- a field with the tally that counts it
+abbrev pub counted : Field → Tally → FieldRead
+counted f tally = record {
+  content = f .content;
+  start = f .start;
+  size = f .size;
+  at = f .at;
+  stop = f .stop;
   tally = tally;
 }
 

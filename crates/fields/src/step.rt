@@ -8,7 +8,7 @@ ghost use mathlib.Core.Path.{_≡_};
 ghost use Prim.Native.Nat.{_≤_, _<_};
 ghost use lib.ListN.{length};
 ghost use Rattle.model.specs.Reading.{isGafHead};
-ghost use Rattle.fields.specs.Rest.{Place, lineRead, Reads};
+ghost use Rattle.fields.specs.Rest.{Place, lineRead, counted, Reads};
 
 // How many lines and fields have been begun.
 pub struct Tally {
@@ -25,6 +25,15 @@ pub struct FieldRead {
     pub at: usize,
     pub stop: usize,
     pub tally: Tally,
+}
+
+// The same without the tally.
+pub struct Field {
+    pub content: Content,
+    pub start: usize,
+    pub size: usize,
+    pub at: usize,
+    pub stop: usize,
 }
 
 // The next field of an `H` line, or the next relation of a tag, that stops at `stop`.
@@ -100,7 +109,7 @@ fn next_line(t: &[u8], at: usize, tally: Tally) -> FieldRead
 }
 
 // The next field from `at` on, of what stops at `stop` or, where that is done with, of the next line.
-pub fn next(source: Source, t: &[u8], stop: usize, at: usize, tally: Tally) -> FieldRead
+fn next_field(source: Source, t: &[u8], stop: usize, at: usize, tally: Tally) -> FieldRead
     requires { ⌜ Place source (now t) stop at tally × (stop ≤ at → at < length (now t)) ⌝ }
     ensures { λ r. ⌜ Reads source (now (t .entry)) stop at tally r ⌝ }
 {
@@ -108,4 +117,37 @@ pub fn next(source: Source, t: &[u8], stop: usize, at: usize, tally: Tally) -> F
         return next_part(source, t, stop, at, tally);
     }
     next_line(t, at, tally)
+}
+
+// The next field, as by `next_field`: the tally is lent, and moved on here.
+pub fn read_field(source: Source, t: &[u8], stop: usize, at: usize, tally: &mut Tally) -> Field
+    requires { ⌜ Place source (now t) stop at (now tally) × (stop ≤ at → at < length (now t)) ⌝ }
+    ensures { λ r. ⌜ Reads source (now (t .entry)) stop at (now (tally .entry)) (counted r (now (tally .exit))) ⌝ }
+{
+    let read = next_field(source, t, stop, at, *tally);
+    *tally = read.tally;
+    Field {
+        content: read.content,
+        start: read.start,
+        size: read.size,
+        at: read.at,
+        stop: read.stop,
+    }
+}
+
+// The next field with its tally, for every other caller, which has what was begun by value: here it is lent.
+pub fn next(source: Source, t: &[u8], stop: usize, at: usize, begun: Tally) -> FieldRead
+    requires { ⌜ Place source (now t) stop at begun × (stop ≤ at → at < length (now t)) ⌝ }
+    ensures { λ r. ⌜ Reads source (now (t .entry)) stop at begun r ⌝ }
+{
+    let mut tally = begun;
+    let field = read_field(source, t, stop, at, &mut tally);
+    FieldRead {
+        content: field.content,
+        start: field.start,
+        size: field.size,
+        at: field.at,
+        stop: field.stop,
+        tally,
+    }
 }

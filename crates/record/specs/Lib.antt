@@ -1,3 +1,4 @@
 pub mod Test
 pub mod Coded
 pub mod Answers
+pub mod Reader

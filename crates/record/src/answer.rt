@@ -1,8 +1,8 @@
 // What a record holds, one by one. Each function takes any slice, and a place past the end gives nothing.
 use crate::layout::name_at;
 use crate::layout::pair_count;
-use crate::layout::part_at;
 use crate::layout::table_at;
+use crate::reader::part_at;
 use crate::verdict::fault;
 use crate::verdict::fault_of_both;
 use model::Kind;

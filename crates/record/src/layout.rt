@@ -1,12 +1,13 @@
 // Where things stand in a record: the bodies, a name, the pairs of a kind.
+use crate::reader::part_at;
 use model::Kind;
 use text::read16;
 ghost use mathlib.Core.Path.{_≡_};
-ghost use Prim.Native.Nat.{_+_, _*_, _<_};
+ghost use Prim.Native.Nat.{_<_};
 ghost use lib.ListN.{length};
-ghost use Rattle.model.specs.Numbers.{number};
 ghost use Rattle.model.specs.Layout.{nameAt};
-ghost use Rattle.record.specs.Test.{bodiesAt, pairCount, tableAt};
+ghost use Rattle.record.specs.Test.{pairCount, tableAt};
+ghost use Rattle.record.specs.Reader.{IsNumber, IsPart};
 
 // A part of a buffer.
 pub struct Part {
@@ -14,20 +15,13 @@ pub struct Part {
     pub size: usize,
 }
 
-// Where the bodies of the names begin.
-pub fn bodies_at(b: &[u8]) -> usize
-    requires { ⌜ length (now b) ≡ 32768 ⌝ }
-    ensures { λ r. ⌜ (r ≡ bodiesAt (now (b .entry))) × (r < 786432) ⌝ }
+// Where the body of the name at place i stands, in a buffer with these numbers of names and pairs.
+pub(crate) fn part_of(b: &[u8], names: usize, subgraph: usize, translation: usize, i: usize) -> Part
+    requires { ⌜ (length (now b) ≡ 32768) × IsNumber (now b) 0 names × IsNumber (now b) 4 subgraph × IsNumber (now b) 6 translation × (i < 8190) ⌝ }
+    ensures { λ r. ⌜ IsPart (now (b .entry)) i r ⌝ }
 {
-    8 + 4 * (read16(b, 0) + read16(b, 4) + read16(b, 6))
-}
-
-// Where the body of the name at place i stands.
-pub fn part_at(b: &[u8], i: usize) -> Part
-    requires { ⌜ (length (now b) ≡ 32768) × (i < 8190) ⌝ }
-    ensures { λ r. ⌜ (r .start ≡ bodiesAt (now (b .entry)) + number (now (b .entry)) (8 + 4 * i)) × (r .size ≡ number (now (b .entry)) (8 + 4 * i + 2)) ⌝ }
-{
-    let start = bodies_at(b) + read16(b, 8 + 4 * i);
+    let bodies = 8 + 4 * (names + subgraph + translation);
+    let start = bodies + read16(b, 8 + 4 * i);
     let size = read16(b, 8 + 4 * i + 2);
     Part { start, size }
 }

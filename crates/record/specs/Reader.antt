@@ -1,0 +1,26 @@
+-- What a record's reader holds, and where it finds a name. Assumes nothing.
+use mathlib.Core.Path.{_≡_}
+use Prim.Native.Nat.{ℕ, _+_, _*_, _<_}
+use lib.ListN.{length}
+use denote.Ref.{now}
+use Rattle.model.specs.Bytes.{Bytes}
+use Rattle.model.specs.Numbers.{number}
+use Rattle.record.specs.Test.{bodiesAt}
+use Rattle.record.specs.declared.layout.Part.{Part}
+use Rattle.record.specs.declared.reader.Reader.{Reader}
+
+-- n is the number that b has at byte `at`
+abbrev pub IsNumber : Bytes → ℕ → ℕ → Type 0
+IsNumber b at n = (n ≡ number b at) × (n < 65536)
+
+-- a reader's buffer is as long as a record, and its counts are the four numbers that the buffer begins with
+pub record Opened (r : Reader) : Type 0 where
+  pub long : length (now (r .bytes)) ≡ 32768
+  pub names : IsNumber (now (r .bytes)) 0 (r .names)
+  pub own : IsNumber (now (r .bytes)) 2 (r .own)
+  pub subgraph : IsNumber (now (r .bytes)) 4 (r .subgraph)
+  pub translation : IsNumber (now (r .bytes)) 6 (r .translation)
+
+-- p is where the body of the name at place i stands
+abbrev pub IsPart : Bytes → ℕ → Part → Type 0
+IsPart b i p = (p .start ≡ bodiesAt b + number b (8 + 4 * i)) × (p .size ≡ number b (8 + 4 * i + 2))

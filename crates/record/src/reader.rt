@@ -1,0 +1,49 @@
+// A record's reader: a buffer with its four counts. A function over it takes it apart and calls one on the slice and the numbers; every
+// other module calls `part_at`, whose parameters are plain.
+use crate::layout::Part;
+use crate::layout::part_of;
+use text::read16;
+ghost use mathlib.Core.Path.{_≡_};
+ghost use Prim.Native.Nat.{_<_};
+ghost use lib.ListN.{length};
+ghost use Rattle.record.specs.Reader.{Opened, IsPart};
+
+// A buffer of a record's length, and what it counts in its first eight bytes: its names; the own name, by its place counted from 1, or 0
+// for none; its pairs of each kind.
+pub struct Reader<'a> {
+    pub bytes: &'a [u8],
+    pub names: usize,
+    pub own: usize,
+    pub subgraph: usize,
+    pub translation: usize,
+}
+
+// A buffer with its counts.
+pub fn open<'a>(b: &'a [u8]) -> Reader<'a>
+    requires { ⌜ length (now b) ≡ 32768 ⌝ }
+    ensures { λ r. ⌜ (r .bytes ≡ b .entry) × Opened r ⌝ }
+{
+    Reader {
+        bytes: b,
+        names: read16(b, 0),
+        own: read16(b, 2),
+        subgraph: read16(b, 4),
+        translation: read16(b, 6),
+    }
+}
+
+// Where the body of the name at place i stands.
+pub fn part<'a>(r: Reader<'a>, i: usize) -> Part
+    requires { ⌜ Opened r × (i < 8190) ⌝ }
+    ensures { λ p. ⌜ IsPart (now (r .entry .bytes)) i p ⌝ }
+{
+    part_of(r.bytes, r.names, r.subgraph, r.translation, i)
+}
+
+// The same, of a plain buffer.
+pub fn part_at(b: &[u8], i: usize) -> Part
+    requires { ⌜ (length (now b) ≡ 32768) × (i < 8190) ⌝ }
+    ensures { λ r. ⌜ IsPart (now (b .entry)) i r ⌝ }
+{
+    part(open(b), i)
+}
