@@ -6,9 +6,5 @@ fn main() {
     let mut space = io::large_buffer();
     let input: &mut [u8] = &mut space;
     let n = io::read_full(STDIN_FILENO, input);
-    if 16384 < n {
-        report::print(b"input over 16384 bytes\n");
-        return;
-    }
-    report::run(text::part(input, 0, n));
+    report::program(text::part(input, 0, n));
 }

@@ -1,4 +1,5 @@
-// What comes of a text of header lines, printed: the counts of the record and its GAF lines, or the refusal with its message line.
+// Document 01's record program: what comes of a text of header lines, printed. The counts of the record and its GAF lines, or the refusal
+// with its message line.
 use export::Written;
 use libc::STDOUT_FILENO;
 use parse::Answer;
@@ -82,4 +83,13 @@ pub fn run(t: &[u8]) {
             size,
         } => print_refusal(number, line, text::part(t, start, size)),
     }
+}
+
+// The record program on an input of any length.
+pub fn program(input: &[u8]) {
+    if 16384 < input.len() {
+        print(b"input over 16384 bytes\n");
+        return;
+    }
+    run(input);
 }

@@ -1,0 +1,87 @@
+// The byte strings that the list sets by name and that the calls take: each has 45,056 bytes of one buffer, and its length stands apart.
+use crate::bytes::read_bytes;
+ghost use mathlib.Core.Path.{_≡_};
+ghost use lib.ListN.{length};
+ghost use Rattle.io.specs.Counts.{Counts};
+
+// The places of the names in `names`: what a call reads, what its outputs hold before it, and what they are to hold after it.
+pub(crate) const RECORD: usize = 0;
+
+pub(crate) const OTHER: usize = 1;
+
+pub(crate) const ONE: usize = 2;
+
+pub(crate) const TWO: usize = 3;
+
+pub(crate) const THREE: usize = 4;
+
+pub(crate) const OUT: usize = 5;
+
+pub(crate) const OUT_TWO: usize = 6;
+
+pub(crate) const OUT_THREE: usize = 7;
+
+pub(crate) const WANT: usize = 8;
+
+pub(crate) const WANT_TWO: usize = 9;
+
+pub(crate) const WANT_THREE: usize = 10;
+
+// The place of a name, 11 if it is none of them.
+pub(crate) fn holder(name: &[u8]) -> usize {
+    crate::lines::place_of(
+        b"record other one two three out out_two out_three want want_two want_three ",
+        name,
+    )
+}
+
+// Room for all of them.
+pub(crate) fn holder_buffer() -> [u8; 495616]
+    ensures { λ r. ⌜ 495616 ≡ length r ⌝ }
+{
+    [0; 495616]
+}
+
+// Their lengths.
+pub(crate) fn holder_sizes() -> [usize; 11]
+    ensures { λ r. ⌜ 11 ≡ length r ⌝ }
+{
+    [0; 11]
+}
+
+// Sets the one at a place to the bytes that a text stands for.
+pub(crate) fn set(bytes: &mut [u8], sizes: &mut [usize], place: usize, s: &[u8]) {
+    if bytes.len() != 495616 {
+        return;
+    }
+    if sizes.len() != 11 {
+        return;
+    }
+    if 10 < place {
+        return;
+    }
+    let start = 45056 * place;
+    let end = start + 45056;
+    sizes[place] = read_bytes(s, &mut bytes[start..end]);
+}
+
+// The one at a place.
+pub(crate) fn held<'a>(bytes: &'a [u8], sizes: &[usize], place: usize) -> &'a [u8] {
+    if 10 < place {
+        return text::part(bytes, 0, 0);
+    }
+    if sizes.len() <= place {
+        return text::part(bytes, 0, 0);
+    }
+    text::part(bytes, 45056 * place, sizes[place])
+}
+
+// Copies one to the front of an output, if it fits, and gives its length.
+pub(crate) fn load(out: &mut [u8], s: &[u8]) -> usize
+    ensures { λ r. ⌜ Counts r (now (out .exit)) ⌝ }
+{
+    if out.len() < s.len() {
+        return 0;
+    }
+    text::copy(out, 0, s)
+}

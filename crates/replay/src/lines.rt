@@ -1,0 +1,82 @@
+// Parts of a line of the list: words between spaces, numbers in decimal, and bytes.
+ghost use mathlib.Core.Path.{_≡_};
+ghost use Prim.Native.Nat.{_≤_, _<_};
+ghost use lib.ListN.{length};
+
+// What an output number holds before a call. The list has `-` for it.
+pub(crate) const UNWRITTEN: u64 = 6510615555426900570;
+
+// The part of s from a place on, up to the next x or the end.
+pub(crate) fn upto(s: &[u8], from: usize, x: u8) -> &[u8] {
+    let end = text::find_byte(s, from, x);
+    text::part(s, from, end - from)
+}
+
+// The place behind the next x from a place on, or the end.
+pub(crate) fn past(s: &[u8], from: usize, x: u8) -> usize
+    ensures { λ r. ⌜ (from ≤ r) × (from < length (now (s .entry)) → from < r) ⌝ }
+{
+    let end = text::find_byte(s, from, x);
+    if end < s.len() {
+        return end + 1;
+    }
+    end
+}
+
+// The place of a word in a list of words with a space after each; their number, if it is not there.
+pub(crate) fn place_of(words: &[u8], word: &[u8]) -> usize {
+    let mut at = 0;
+    let mut place = 0;
+    while at < words.len() {
+        if text::same(upto(words, at, b' '), word) {
+            return place;
+        }
+        at = past(words, at, b' ');
+        place += 1;
+    }
+    place
+}
+
+// A number with one more decimal digit; other bytes, and digits past 64 bits, change nothing.
+fn with_digit(n: u64, x: u8) -> u64 {
+    if x < 48 {
+        return n;
+    }
+    if 57 < x {
+        return n;
+    }
+    let d = (x - 48) as u64;
+    if n < 1844674407370955161 {
+        return 10 * n + d;
+    }
+    if 1844674407370955161 < n {
+        return n;
+    }
+    if 5 < d {
+        return n;
+    }
+    10 * n + d
+}
+
+// The number that a word is in decimal.
+pub(crate) fn number(word: &[u8]) -> u64 {
+    if text::same(word, b"-") {
+        return UNWRITTEN;
+    }
+    let mut n = 0;
+    for i in 0..word.len() {
+        n = with_digit(n, word[i]);
+    }
+    n
+}
+
+// The first 12 numbers of a line, with a space after each; 0 for those that are not there.
+pub(crate) fn numbers(line: &[u8]) -> [u64; 12] {
+    let mut n = [0; 12];
+    let mut at = 0;
+    for i in 0..12 {
+        n[i] = number(upto(line, at, b' '));
+        at = past(line, at, b' ');
+    }
+    n
+}
