@@ -6,7 +6,7 @@ ghost use mathlib.Core.Path.{_≡_};
 ghost use Prim.Native.Nat.{_<_};
 ghost use lib.ListN.{length};
 ghost use Rattle.model.specs.Layout.{nameAt};
-ghost use Rattle.record.specs.Test.{pairCount, tableAt};
+ghost use Rattle.record.specs.Test.{bodiesAt, pairCount, tableAt};
 ghost use Rattle.record.specs.Reader.{IsNumber, IsPart};
 
 // A part of a buffer.
@@ -26,6 +26,14 @@ pub(crate) fn part_of(b: &[u8], names: usize, subgraph: usize, translation: usiz
     Part { start, size }
 }
 
+// Where the bodies of the names begin.
+pub fn bodies_at(b: &[u8]) -> usize
+    requires { ⌜ length (now b) ≡ 32768 ⌝ }
+    ensures { λ r. ⌜ (r ≡ bodiesAt (now (b .entry))) × (r < 786432) ⌝ }
+{
+    8 + 4 * (read16(b, 0) + read16(b, 4) + read16(b, 6))
+}
+
 // The name at place i, with the bodies from byte `bodies` on.
 pub fn name_in(b: &[u8], bodies: usize, i: usize) -> &[u8]
     requires { ⌜ (length (now b) ≡ 32768) × (bodies ≡ bodiesAt (now b)) × (bodies < 786432) × (i < 8190) ⌝ }
@@ -41,7 +49,10 @@ pub fn name_at(b: &[u8], i: usize) -> &[u8]
     requires { ⌜ (length (now b) ≡ 32768) × (i < 8190) ⌝ }
     ensures { λ r. ⌜ now r ≡ nameAt (now (b .entry)) i ⌝ }
 {
-    name_in(b, bodies_at(b), i)
+    let p = part_at(b, i);
+    let start = p.start;
+    let size = p.size;
+    text::part(b, start, size)
 }
 
 // How many pairs of a kind there are.

@@ -19,6 +19,7 @@ pub use answer::name;
 pub use answer::name_place;
 pub use answer::pair_place;
 pub use layout::Part;
+pub use layout::bodies_at;
 pub use layout::name_at;
 pub use layout::name_in;
 pub use layout::pair_count;
