@@ -2,8 +2,7 @@
 //!
 //! Each figure is the least time of many calls, ours and the Rust's in turn. A call is timed alone: its inputs are there (the Rust's
 //! header lines are already split, and a graph to be changed is already cloned), output buffers are not cleared beforehand, and what the
-//! Rust gives is freed after the clock has stopped. `bench/run` builds and runs the program, and passes `have_NAME` for each function
-//! that the library exports.
+//! Rust gives is freed after the clock has stopped. `bench/run` builds and runs the program.
 
 #[allow(dead_code)]
 #[path = "../../oracle/src/encoder.rs"]
@@ -14,7 +13,6 @@ mod generate;
 #[allow(dead_code)]
 #[path = "../../oracle/src/graph.rs"]
 mod graph;
-#[cfg_attr(not(have_all), allow(dead_code))]
 mod measures;
 #[allow(dead_code)]
 #[path = "../../oracle/src/model_paths.rs"]
@@ -22,12 +20,10 @@ mod model_paths;
 #[allow(dead_code)]
 #[path = "../../../shared/docs/src/src/name.rs"]
 mod name;
-#[cfg_attr(not(have_all), allow(dead_code))]
 mod sample;
 #[allow(dead_code)]
 #[path = "../../oracle/src/shim.rs"]
 mod shim;
-#[cfg_attr(not(have_all), allow(dead_code))]
 mod timing;
 
 use sample::{samples, Sample};
@@ -40,53 +36,45 @@ struct Row {
     measure: fn(&Sample) -> Times,
 }
 
-/// The rows of the functions that the library exports.
-macro_rules! rows {
-    ($($have:ident: $title:literal $measure:expr;)*) => {{
-        #[allow(unused_mut)]
-        let mut list: Vec<Row> = Vec::new();
-        $(
-            #[cfg($have)]
-            list.push(Row { title: $title, measure: $measure });
-        )*
-        list
-    }};
+/// A row of this title.
+fn row(title: &'static str, measure: fn(&Sample) -> Times) -> Row {
+    Row { title, measure }
 }
 
 /// All operations but the questions.
 fn operations() -> Vec<Row> {
-    rows! {
-        have_from_header_lines: "reading H lines" measures::reading_gfa;
-        have_from_header_lines: "reading @ lines" measures::reading_gaf;
-        have_from_tags: "reading tags" measures::reading_tags;
-        have_to_gfa_header_lines: "writing H lines" measures::writing_gfa;
-        have_to_gaf_header_lines: "writing @ lines" measures::writing_gaf;
-        have_set_tags: "writing tags" measures::writing_tags;
-        have_add_relationships: "merging two halves" measures::merging;
-        have_make_subgraph_of: "taking on a parent" measures::taking_on;
-        have_add_subgraph: "one addition" measures::adding;
-        have_describe_relationship: "description, near" |s| measures::describing(s, &s.full.near.full);
-        have_describe_relationship: "description, far" |s| measures::describing(s, &s.full.far.full);
-        have_describe_relationship: "description, no" |s| measures::describing(s, &s.full.no.full);
-    }
+    vec![
+        row("reading H lines", measures::reading_gfa),
+        row("reading @ lines", measures::reading_gaf),
+        row("reading tags", measures::reading_tags),
+        row("writing H lines", measures::writing_gfa),
+        row("writing @ lines", measures::writing_gaf),
+        row("writing tags", measures::writing_tags),
+        row("merging two halves", measures::merging),
+        row("taking on a parent", measures::taking_on),
+        row("one addition", measures::adding),
+        row("description, near", |s| measures::describing(s, &s.full.near.full)),
+        row("description, far", |s| measures::describing(s, &s.full.far.full)),
+        row("description, no", |s| measures::describing(s, &s.full.no.full)),
+    ]
 }
 
 /// Both questions.
 fn questions() -> Vec<Row> {
-    rows! {
-        have_is_subgraph_of: "subgraph? near, bare" |s| measures::subgraph_question(s, &s.subgraph.near.bare);
-        have_is_subgraph_of: "subgraph? near, full" |s| measures::subgraph_question(s, &s.subgraph.near.full);
-        have_is_subgraph_of: "subgraph? far, bare" |s| measures::subgraph_question(s, &s.subgraph.far.bare);
-        have_is_subgraph_of: "subgraph? far, full" |s| measures::subgraph_question(s, &s.subgraph.far.full);
-        have_is_subgraph_of: "subgraph? no, bare" |s| measures::subgraph_question(s, &s.subgraph.no.bare);
-        have_is_subgraph_of: "subgraph? no, full" |s| measures::subgraph_question(s, &s.subgraph.no.full);
-        have_translates_to: "translates? near, bare" |s| measures::full_question(s, &s.full.near.bare);
-        have_translates_to: "translates? near, full" |s| measures::full_question(s, &s.full.near.full);
-        have_translates_to: "translates? far, bare" |s| measures::full_question(s, &s.full.far.bare);
-        have_translates_to: "translates? far, full" |s| measures::full_question(s, &s.full.far.full);
-        have_translates_to: "translates? no, bare" |s| measures::full_question(s, &s.full.no.bare);
-        have_translates_to: "translates? no, full" |s| measures::full_question(s, &s.full.no.full);
-    }
+    vec![
+        row("subgraph? near, bare", |s| measures::subgraph_question(s, &s.subgraph.near.bare)),
+        row("subgraph? near, full", |s| measures::subgraph_question(s, &s.subgraph.near.full)),
+        row("subgraph? far, bare", |s| measures::subgraph_question(s, &s.subgraph.far.bare)),
+        row("subgraph? far, full", |s| measures::subgraph_question(s, &s.subgraph.far.full)),
+        row("subgraph? no, bare", |s| measures::subgraph_question(s, &s.subgraph.no.bare)),
+        row("subgraph? no, full", |s| measures::subgraph_question(s, &s.subgraph.no.full)),
+        row("translates? near, bare", |s| measures::full_question(s, &s.full.near.bare)),
+        row("translates? near, full", |s| measures::full_question(s, &s.full.near.full)),
+        row("translates? far, bare", |s| measures::full_question(s, &s.full.far.bare)),
+        row("translates? far, full", |s| measures::full_question(s, &s.full.far.full)),
+        row("translates? no, bare", |s| measures::full_question(s, &s.full.no.bare)),
+        row("translates? no, full", |s| measures::full_question(s, &s.full.no.full)),
+    ]
 }
 
 /// Prints one line: a title and a cell for each sample.
@@ -110,10 +98,7 @@ fn main() {
         print(&row, &samples);
     }
     let ratios: Vec<Vec<f64>> = questions().iter().map(|row| print(row, &samples)).collect();
-    if !ratios.is_empty() {
-        let mean = |place: usize| ratios.iter().map(|row| row[place]).sum::<f64>() / ratios.len() as f64;
-        line("questions, mean", (0..samples.len()).map(|place| format!("{:.2}", mean(place))));
-    }
-    #[cfg(have_counts)]
+    let mean = |place: usize| ratios.iter().map(|row| row[place]).sum::<f64>() / ratios.len() as f64;
+    line("questions, mean", (0..samples.len()).map(|place| format!("{:.2}", mean(place))));
     line("test of a record", samples.iter().map(|sample| format!("{:.0} ns", measures::record_test(sample))));
 }
