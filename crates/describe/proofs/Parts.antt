@@ -2,7 +2,6 @@
 use mathlib.Core.Path.{_≡_, sym, ap, _∙_}
 use mathlib.Core.Bool.{Bool, true, false, not, _&&_}
 use mathlib.Core.List.{List, _++_}
-use mathlib.Core.Option.{Option}
 use Prim.Native.Nat.{ℕ, _+_, _-_, _*_, _≤_, _<_}
 use lib.Dec.{leb}
 use lib.ListN.{length, take, drop, length-append}
@@ -11,10 +10,10 @@ use Rattle.model.specs.Text.{text}
 use Rattle.model.specs.Bytes.{Bytes}
 use Rattle.model.specs.Numbers.{number}
 use Rattle.model.specs.Questions.{refuses, gives}
-use Rattle.model.specs.Describe.{Leg, afterLastEmpty, nameIsFor, stepLines, graphLine, graphLines, orNoName, describePath, describeNone}
+use Rattle.model.specs.Describe.{Leg, afterLastEmpty, nameIsFor, stepLines, graphLine, graphLines, describePath}
 use Rattle.text.proofs.Tests.{both-true}
 use Rattle.describe.specs.Legs.{legsAt}
-use Rattle.describe.specs.Lines.{Short}
+use Rattle.describe.specs.Lines.{shownName, noneTold, Short}
 use Rattle.describe.specs.Direction.{toldOf, pathTold}
 use Rattle.describe.proofs.Runs.{length-legs, steps-anywhere}
 
@@ -32,9 +31,9 @@ module _ (p : Bytes) (e body n : ℕ) (last from to : Bytes) where
       ≡ length (nameIsFor 1 from) + length (stepLines 1 (legsAt p e 0 n)) + length (nameIsFor (n + 1) to) + 18 + length (graphLines 1 (legsAt p e body n) last)
   path-size = ap length path-parts ∙ five-lengths (nameIsFor 1 from) _ (nameIsFor (n + 1) to) (text "With graph names:\n") _
 
-pub none-size : (m n : Option Bytes) (from to : Bytes) → length (describeNone m n from to)
-    ≡ length (nameIsFor 1 from) + length (nameIsFor 2 to) + 18 + length (graphLine 1 (orNoName m)) + length (graphLine 2 (orNoName n))
-none-size m n from to = five-lengths (nameIsFor 1 from) (nameIsFor 2 to) (text "With graph names:\n") (graphLine 1 (orNoName m)) (graphLine 2 (orNoName n))
+pub none-size : (b c from to : Bytes) → length (noneTold b c from to)
+    ≡ length (nameIsFor 1 from) + length (nameIsFor 2 to) + 18 + length (graphLine 1 (shownName b)) + length (graphLine 2 (shownName c))
+none-size b c from to = five-lengths (nameIsFor 1 from) (nameIsFor 2 to) (text "With graph names:\n") (graphLine 1 (shownName b)) (graphLine 2 (shownName c))
 
 -- the text of a path, from what is read of its bytes
 pub told-path : (p : Bytes) (n k : ℕ) (start : Bytes) (ls : List Leg) (from to : Bytes) → n ≡ number p 0 → k ≡ number p 2

@@ -7,12 +7,12 @@ use Rattle.model.specs.declared.Kind.{Kind}
 use Rattle.model.specs.Bytes.{Bytes}
 use Rattle.model.specs.Text.{text}
 use Rattle.model.specs.Numbers.{number, decimal}
-use Rattle.model.specs.Layout.{nameAt, ownAt}
+use Rattle.model.specs.Layout.{nameAt}
 use Rattle.model.specs.Describe.{nameIsFor, relationWords, graphLine, orNoName}
 use Rattle.export.proofs.Opened.{own-absent, own-present}
 use Rattle.text.proofs.Decimal.{length-decimal}
 use Rattle.describe.specs.Legs.{kindOf}
-use Rattle.describe.specs.Lines.{stepLine}
+use Rattle.describe.specs.Lines.{stepLine, shownName}
 
 pub few-digits : (n : ℕ) → n < 65536 → length (decimal n) ≤ 5
 few-digits n h = length-decimal 4 n (omega arith)
@@ -37,8 +37,8 @@ translation-words (suc k) n = refl
 
 -- what a record is called
 module _ (b : Bytes) (own : ℕ) (e : own ≡ number b 2) where
-  pub no-name : own ≡ 0 → orNoName (ownAt b (number b 2)) ≡ text "(no name)"
+  pub no-name : own ≡ 0 → shownName b ≡ text "(no name)"
   no-name z = ap orNoName (own-absent b own e z)
 
-  pub its-name : (n : Bytes) → n ≡ nameAt b (own - 1) → (own ≡ 0 → ⊥) → orNoName (ownAt b (number b 2)) ≡ n
+  pub its-name : (n : Bytes) → n ≡ nameAt b (own - 1) → (own ≡ 0 → ⊥) → shownName b ≡ n
   its-name n d z = ap orNoName (own-present b own e z) ∙ sym d

@@ -21,7 +21,7 @@ use Rattle.record.proofs.Laws.{decode-held}
 use Rattle.record.proofs.Access.{record-own}
 use Rattle.record.proofs.Parts.{both-refuse}
 use Rattle.describe.specs.Legs.{startAt, PathIn}
-use Rattle.describe.specs.Lines.{Owner}
+use Rattle.describe.specs.Lines.{noneTold, Owner}
 use Rattle.describe.specs.Direction.{Apart, Leads, toldOf, pathTold}
 use Rattle.describe.proofs.Reading.{path-in, start-read, path-legs}
 
@@ -80,7 +80,7 @@ module _ (b c s o : Bytes) (room : ℕ) where
       ∙ ap (λ (x : Option (List Step)). described (w .g .name) o s x neither) (w .path) ∙ path-text c b p o s w neither)
       ∙ exchanged (pathTold p o s) s o room
 
-  pub told-neither : Apart c b → Apart b c → relationshipWritten b c s o room ≡ toldOf (describeNone (ownAt c (number c 2)) (ownAt b (number b 2)) o s) o s room
+  pub told-neither : Apart c b → Apart b c → relationshipWritten b c s o room ≡ toldOf (noneTold c b o s) o s room
   unfolding describeRelationship
   told-neither w v =
       let neither = describeNone (w .g .name) (w .h .name) o s in
@@ -90,7 +90,7 @@ module _ (b c s o : Bytes) (room : ℕ) where
       ∙ ap (λ (x : Option (List Step)). described (w .g .name) o s x neither) (w .path)
       ∙ ap (λ (n : Option Bytes). describeNone n (w .h .name) o s) (record-own c (w .g) (w .first))
       ∙ ap (λ (n : Option Bytes). describeNone (ownAt c (number c 2)) n o s) (record-own b (w .h) (w .second)))
-      ∙ exchanged (describeNone (ownAt c (number c 2)) (ownAt b (number b 2)) o s) s o room
+      ∙ exchanged (noneTold c b o s) s o room
 
 -- ------------------------------------------------------------------ what the writers ask
 

@@ -7,10 +7,18 @@ use Rattle.model.specs.declared.Kind.{Kind}
 use Rattle.model.specs.Text.{text}
 use Rattle.model.specs.Bytes.{Bytes}
 use Rattle.model.specs.Numbers.{number, decimal}
-use Rattle.model.specs.Describe.{relationWords}
+use Rattle.model.specs.Layout.{ownAt}
+use Rattle.model.specs.Describe.{relationWords, orNoName, describeNone}
 
 abbrev pub stepLine : ℕ → Kind → Bytes
 stepLine i k = text "Graph " ++ decimal i ++ relationWords k ++ decimal (i + 1) ++ text "\n"
+
+-- what a record's graph is called, and the text of two records with no path from one to the other
+abbrev pub shownName : Bytes → Bytes
+shownName b = orNoName (ownAt b (number b 2))
+
+abbrev pub noneTold : Bytes → Bytes → Bytes → Bytes → Bytes
+noneTold b c from to = describeNone (ownAt b (number b 2)) (ownAt c (number c 2)) from to
 
 -- a buffer of a record's size, whose own name has an entry in it
 pub record Owner (b : Bytes) : Type 0 where

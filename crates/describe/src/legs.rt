@@ -1,10 +1,7 @@
 // The names of a path that the description lists, by where they stand in the path's bytes.
 use text::part;
 use text::read16;
-ghost use mathlib.Core.Path.{_≡_};
-ghost use Prim.Native.Nat.{_+_};
-ghost use Rattle.model.specs.Describe.{afterLastEmpty};
-ghost use Rattle.describe.specs.Legs.{legsAt, LegsIn, Listed};
+ghost use Rattle.describe.specs.Legs.{LegsIn, Listed};
 
 // A run of names of a path: where its first entry and its first body stand, and how many there are.
 pub struct Legs {

@@ -7,12 +7,10 @@ use text::read16;
 ghost use mathlib.Core.Path.{_≡_};
 ghost use Prim.Native.Nat.{_+_, _≤_, _<_};
 ghost use lib.ListN.{length};
-ghost use Rattle.model.specs.Numbers.{number};
-ghost use Rattle.model.specs.Layout.{ownAt};
-ghost use Rattle.model.specs.Describe.{nameIsFor, relationWords, graphLine, orNoName};
+ghost use Rattle.model.specs.Describe.{nameIsFor, relationWords, graphLine};
 ghost use Rattle.export.specs.Texts.{Wrote};
 ghost use Rattle.describe.specs.Legs.{kindOf};
-ghost use Rattle.describe.specs.Lines.{stepLine, Owner};
+ghost use Rattle.describe.specs.Lines.{stepLine, shownName, Owner};
 
 // How long the line is that says which desc graph n has.
 pub(crate) fn name_length(n: usize, desc: &[u8]) -> usize
@@ -97,7 +95,7 @@ pub(crate) fn put_graph(out: &mut [u8], at: usize, i: usize, name: &[u8]) -> usi
 // How long the line is that names graph i by a record's own name, or says that it has none.
 pub(crate) fn own_length(i: usize, b: &[u8]) -> usize
     requires { ⌜ (i < 65536) × Owner (now b) ⌝ }
-    ensures { λ r. ⌜ (r ≡ length (graphLine i (orNoName (ownAt (now (b .entry)) (number (now (b .entry)) 2))))) × (r < 65552) ⌝ }
+    ensures { λ r. ⌜ (r ≡ length (graphLine i (shownName (now (b .entry))))) × (r < 65552) ⌝ }
 {
     let own = read16(b, 2);
     if own == 0 {
@@ -108,8 +106,8 @@ pub(crate) fn own_length(i: usize, b: &[u8]) -> usize
 
 // Writes the line that names graph i by a record's own name, or says that it has none.
 pub(crate) fn put_own(out: &mut [u8], at: usize, i: usize, b: &[u8]) -> usize
-    requires { ⌜ Owner (now b) × (at + length (graphLine i (orNoName (ownAt (now b) (number (now b) 2)))) ≤ length (now out)) ⌝ }
-    ensures { λ r. ⌜ Wrote (now (out .entry)) at (graphLine i (orNoName (ownAt (now (b .entry)) (number (now (b .entry)) 2)))) r (now (out .exit)) ⌝ }
+    requires { ⌜ Owner (now b) × (at + length (graphLine i (shownName (now b))) ≤ length (now out)) ⌝ }
+    ensures { λ r. ⌜ Wrote (now (out .entry)) at (graphLine i (shownName (now (b .entry)))) r (now (out .exit)) ⌝ }
 {
     let own = read16(b, 2);
     if own == 0 {

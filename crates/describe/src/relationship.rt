@@ -14,13 +14,10 @@ ghost use mathlib.Core.Path.{_≡_};
 ghost use mathlib.Core.Bool.{_&&_};
 ghost use lib.Dec.{leb};
 ghost use lib.ListN.{length};
-ghost use Rattle.model.specs.Numbers.{number};
-ghost use Rattle.model.specs.Layout.{ownAt};
-ghost use Rattle.model.specs.Describe.{describeNone};
 ghost use Rattle.model.specs.Written.{relationshipWritten};
 ghost use Rattle.export.specs.Answers.{Answers};
 ghost use Rattle.describe.specs.Legs.{PathIn};
-ghost use Rattle.describe.specs.Lines.{Owner};
+ghost use Rattle.describe.specs.Lines.{noneTold, Owner};
 ghost use Rattle.describe.specs.Direction.{Finds, toldOf, pathTold};
 
 // Whether neither desc is over 4,096 bytes.
@@ -53,7 +50,7 @@ fn describe_path(path: &[u8], from: &[u8], to: &[u8], out: &mut [u8]) -> Written
 // Writes the text of two graphs with no path between them.
 fn describe_none(b: &[u8], c: &[u8], from: &[u8], to: &[u8], out: &mut [u8]) -> Written
     requires { ⌜ Owner (now b) × Owner (now c) ⌝ }
-    ensures { λ r. ⌜ Answers (toldOf (describeNone (ownAt (now (b .entry)) (number (now (b .entry)) 2)) (ownAt (now (c .entry)) (number (now (c .entry)) 2)) (now (from .entry)) (now (to .entry))) (now (from .entry)) (now (to .entry)) (length (now (out .entry)))) (now (out .entry)) r (now (out .exit)) ⌝ }
+    ensures { λ r. ⌜ Answers (toldOf (noneTold (now (b .entry)) (now (c .entry)) (now (from .entry)) (now (to .entry))) (now (from .entry)) (now (to .entry)) (length (now (out .entry)))) (now (out .entry)) r (now (out .exit)) ⌝ }
 {
     if !short(from, to) {
         return Written::Refused(18);

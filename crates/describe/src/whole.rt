@@ -11,12 +11,10 @@ use text::copy;
 ghost use mathlib.Core.Path.{_≡_};
 ghost use Prim.Native.Nat.{_+_, _≤_};
 ghost use lib.ListN.{length};
-ghost use Rattle.model.specs.Numbers.{number};
-ghost use Rattle.model.specs.Layout.{ownAt};
-ghost use Rattle.model.specs.Describe.{describePath, describeNone};
+ghost use Rattle.model.specs.Describe.{describePath};
 ghost use Rattle.export.specs.Texts.{Wrote};
 ghost use Rattle.describe.specs.Legs.{legsAt, LegsIn};
-ghost use Rattle.describe.specs.Lines.{Owner, Short};
+ghost use Rattle.describe.specs.Lines.{noneTold, Owner, Short};
 
 // How long the text of a path is that lists `count` names and the last one.
 pub(crate) fn path_length(
@@ -60,7 +58,7 @@ pub(crate) fn put_path(
 // How long the text of two graphs with no path is.
 pub(crate) fn none_length(b: &[u8], c: &[u8], from: &[u8], to: &[u8]) -> usize
     requires { ⌜ Owner (now b) × Owner (now c) × Short (now from) (now to) ⌝ }
-    ensures { λ r. ⌜ r ≡ length (describeNone (ownAt (now (b .entry)) (number (now (b .entry)) 2)) (ownAt (now (c .entry)) (number (now (c .entry)) 2)) (now (from .entry)) (now (to .entry))) ⌝ }
+    ensures { λ r. ⌜ r ≡ length (noneTold (now (b .entry)) (now (c .entry)) (now (from .entry)) (now (to .entry))) ⌝ }
 {
     let names = name_length(1, from) + name_length(2, to);
     18 + names + own_length(1, b) + own_length(2, c)
@@ -68,8 +66,8 @@ pub(crate) fn none_length(b: &[u8], c: &[u8], from: &[u8], to: &[u8]) -> usize
 
 // Writes the text of two graphs with no path.
 pub(crate) fn put_none(out: &mut [u8], b: &[u8], c: &[u8], from: &[u8], to: &[u8]) -> usize
-    requires { ⌜ Owner (now b) × Owner (now c) × (length (describeNone (ownAt (now b) (number (now b) 2)) (ownAt (now c) (number (now c) 2)) (now from) (now to)) ≤ length (now out)) ⌝ }
-    ensures { λ r. ⌜ Wrote (now (out .entry)) 0 (describeNone (ownAt (now (b .entry)) (number (now (b .entry)) 2)) (ownAt (now (c .entry)) (number (now (c .entry)) 2)) (now (from .entry)) (now (to .entry))) r (now (out .exit)) ⌝ }
+    requires { ⌜ Owner (now b) × Owner (now c) × (length (noneTold (now b) (now c) (now from) (now to)) ≤ length (now out)) ⌝ }
+    ensures { λ r. ⌜ Wrote (now (out .entry)) 0 (noneTold (now (b .entry)) (now (c .entry)) (now (from .entry)) (now (to .entry))) r (now (out .exit)) ⌝ }
 {
     let p = put_name(out, 0, 1, from);
     let q = put_name(out, p, 2, to);

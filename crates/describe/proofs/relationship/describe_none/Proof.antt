@@ -1,9 +1,7 @@
 -- Refused for a long desc, then for want of room, else written.
 use native.Mathlib.Omega.{arith}
 use Rattle.model.specs.Bytes.{Bytes}
-use Rattle.model.specs.Numbers.{number}
-use Rattle.model.specs.Layout.{ownAt}
-use Rattle.model.specs.Describe.{describeNone}
+use Rattle.describe.specs.Lines.{noneTold}
 use Rattle.export.proofs.Answering.{refused-answers, wrote-answers}
 use Rattle.describe.proofs.Parts.{told-long, told-not, told-all, descs-short}
 use borrow.Author.Needs.{needs}
@@ -12,9 +10,7 @@ use Rattle.describe.proofs.relationship.describe_none.Tie as tie
 
 -- the text that is measured and written
 abbrev written : tie.Start → Bytes
-written s =
-    let a = s .args in
-    describeNone (ownAt (a .b .now) (number (a .b .now) 2)) (ownAt (a .c .now) (number (a .c .now) 2)) (a .from .now) (a .to .now)
+written s = noneTold (s .args .b .now) (s .args .c .now) (s .args .from .now) (s .args .to .now)
 
 short-requires : tie.Need-short-requires
 short-requires c κs = search needs

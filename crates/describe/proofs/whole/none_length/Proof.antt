@@ -1,7 +1,5 @@
 -- The sum of its parts.
 use native.Mathlib.Omega.{arith}
-use Rattle.model.specs.Numbers.{number}
-use Rattle.model.specs.Layout.{ownAt}
 use Rattle.describe.proofs.Parts.{none-size}
 use borrow.Author.Needs.{needs}
 use Rattle.describe.proofs.whole.none_length.Statement.{statement}
@@ -34,7 +32,7 @@ add-result-3 c = search needs
 returns : tie.Need-returns
 returns c =
     let a = c .before .before .before .before .before .before .before .before .args in
-    omega (arith, none-size (ownAt (a .b .now) (number (a .b .now) 2)) (ownAt (a .c .now) (number (a .c .now) 2)) (a .from .now) (a .to .now))
+    omega (arith, none-size (a .b .now) (a .c .now) (a .from .now) (a .to .now))
 
 pub none-length-spec : {M : Type 1} → statement M
 none-length-spec =

@@ -1,28 +1,22 @@
 -- Five texts, one behind the other.
 use lib.ListN.{length}
 use Prim.Native.Nat.{_+_, _≤_}
-use Rattle.model.specs.Bytes.{Bytes}
 use native.Mathlib.Omega.{arith}
 use Rattle.model.specs.Text.{text}
-use Rattle.model.specs.Numbers.{number}
-use Rattle.model.specs.Layout.{ownAt}
-use Rattle.model.specs.Describe.{nameIsFor, graphLine, orNoName}
+use Rattle.model.specs.Describe.{nameIsFor, graphLine}
+use Rattle.describe.specs.Lines.{shownName}
 use Rattle.describe.proofs.Parts.{none-size}
 use Rattle.describe.proofs.Sequence.{wrote-five}
 use borrow.Author.Needs.{needs}
 use Rattle.describe.proofs.whole.put_none.Statement.{statement}
 use Rattle.describe.proofs.whole.put_none.Tie as tie
 
--- what a record is called
-abbrev shownName : Bytes → Bytes
-shownName b = orNoName (ownAt b (number b 2))
-
 -- the room for all of them
 room : (s : tie.Start) → length (nameIsFor 1 (s .args .from .now)) + length (nameIsFor 2 (s .args .to .now)) + 18 + length (graphLine 1 (shownName (s .args .b .now)))
     + length (graphLine 2 (shownName (s .args .c .now))) ≤ length (s .args .out .now)
 room s =
     let a = s .args in
-    omega (arith, s .pre .2, none-size (ownAt (a .b .now) (number (a .b .now) 2)) (ownAt (a .c .now) (number (a .c .now) 2)) (a .from .now) (a .to .now))
+    omega (arith, s .pre .2, none-size (a .b .now) (a .c .now) (a .from .now) (a .to .now))
 
 -- the start, from each call
 abbrev start1 : tie.After-put-name-arg → tie.Start
