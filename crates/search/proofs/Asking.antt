@@ -188,23 +188,21 @@ counted b c o = record {
 
 -- the large tables have room for any two records
 pub within-large : (b c : Bytes) → Owned b c → Within b c 1024 2048
-within-large b c o = record {
-  names-fit = let z = counted b c o in omega (arith, z .first-few, z .second-few);
-  pairs-fit = λ k. omega (arith, few-pairs b (o .named .g) (o .named .first) k, few-pairs c (o .named .h) (o .named .second) k);
-}
+within-large b c o =
+    let d = decode-held b (o .named .g) (o .named .first) in
+    let e = decode-held c (o .named .h) (o .named .second) in
+    record {
+      names-fit = omega (arith, d .count, e .count);
+      subgraphs-fit = omega (arith, d .subgraphs, e .subgraphs);
+      translations-fit = omega (arith, d .translations, e .translations);
+    }
 
 pub within-not : (b c : Bytes) → _≡_ {A = Bool} false true → Within b c 256 256
 within-not b c e = absurd (let z : _≡_ {A = ℕ} 0 1 = cc in omega arith)
 
-pub within-small : (b c : Bytes) (names pairs : ℕ) → number b 0 + number c 0 ≤ names → number b 4 + number c 4 ≤ pairs → number b 6 + number c 6 ≤ pairs → Within b c names pairs
-within-small b c names pairs x y z = record {
-  names-fit = x;
-  pairs-fit = go;
-}
-  where
-    go : PairsWithin b c pairs
-    go Subgraph = y
-    go Translation = z
+pub pairs-within : (b c : Bytes) (names pairs : ℕ) → Within b c names pairs → PairsWithin b c pairs
+pairs-within b c names pairs w Subgraph = w .subgraphs-fit
+pairs-within b c names pairs w Translation = w .translations-fit
 
 -- the front of a table given back
 pub front-back : (p l : List ℕ) (v : ℕ) → v ≤ length l → length p ≡ length (take v l) → length (p ++ drop v l) ≡ length l

@@ -12,10 +12,11 @@ use Rattle.record.specs.Test.{pairCount}
 abbrev pub PairsWithin : Bytes → Bytes → ℕ → Type 0
 PairsWithin b c pairs = (k : Kind) → pairCount k b + pairCount k c ≤ pairs
 
--- and at most so many names
+-- two records have at most so many names together, and so many pairs of each kind
 pub record Within (b c : Bytes) (names pairs : ℕ) : Type 0 where
   pub names-fit : number b 0 + number c 0 ≤ names
-  pub pairs-fit : PairsWithin b c pairs
+  pub subgraphs-fit : number b 4 + number c 4 ≤ pairs
+  pub translations-fit : number b 6 + number c 6 ≤ pairs
 
 -- tables for n names
 pub record NameTables (n : ℕ) (seconds ones twos starts ends starts′ ends′ nodes parents kinds places : List ℕ) : Type 0 where

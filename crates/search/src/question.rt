@@ -259,7 +259,7 @@ fn ask_small<'a>(b: &'a [u8], c: &'a [u8], full: bool, out: &mut [u8]) -> Reply
 
 // The question in tables for the names and pairs of any two records.
 fn ask_large<'a>(b: &'a [u8], c: &'a [u8], full: bool, out: &mut [u8]) -> Reply
-    requires { ⌜ Owned (now b) (now c) ⌝ }
+    requires { ⌜ Owned (now b) (now c) × Within (now b) (now c) 1024 2048 ⌝ }
     ensures { λ r. ⌜ RepliesOwn full (now (b .entry)) (now (c .entry)) (now (out .entry)) r (now (out .exit)) ⌝ }
 {
     let mut firsts = large_names();

@@ -5,6 +5,7 @@ use lib.ListN.{length}
 use denote.Ref.{now}
 use Rattle.search.specs.Union.{Owned}
 use Rattle.record.proofs.Laws.{decode-held}
+use Rattle.search.proofs.Asking.{within-large}
 use Rattle.search.proofs.Entry.{Faultless, faultless, ask-fault, ask-unnamed, ask-other-unnamed, owned-read, ask-read}
 use borrow.Author.Needs.{needs}
 use Rattle.search.proofs.question.ask.Statement.{statement}
@@ -55,7 +56,7 @@ returns-4 c =
     (start (l .before) .args .full) (now (start (l .before) .args .out)) _ _ (a .ask-small .ensures)
 
 ask-large-requires : tie.Need-ask-large-requires
-ask-large-requires c κs = owned (c .before .before .before)
+ask-large-requires c κs = let o = owned (c .before .before .before) in (o, within-large _ _ o)
 
 same-length-2 : tie.Need-same-length-2
 same-length-2 c = search needs

@@ -1,6 +1,5 @@
 -- The tables are as long as they were made.
 use mathlib.Core.Path.{sym, _∙_}
-use Rattle.search.proofs.Asking.{within-large}
 use borrow.Author.Needs.{needs}
 use Rattle.search.proofs.question.ask_large.Statement.{statement}
 use Rattle.search.proofs.question.ask_large.Tie as tie
@@ -107,9 +106,9 @@ ask-named-requires c κs =
     let s = t .before .before .before .before .before .before .before .before .before .before .before .before .before .before .before .before .before .before .before in
     let names = t .before .before .before .before .before .before .before .before .before .before .before .before .before .before .before .large-names .ensures in
     let pairs = t .before .before .before .before .before .before .before .before .before .before .large-keys2 .ensures in (
-      s .pre,
+      s .pre .0,
       (
-        rw (names, pairs) (within-large _ _ (s .pre)),
+        rw (names, pairs) (s .pre .1),
         (
           record {
             seconds-size = t .before .before .before .before .before .before .before .before .before .before .before .before .before .before .large-names2 .ensures ∙ sym names;

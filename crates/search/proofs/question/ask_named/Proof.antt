@@ -7,7 +7,7 @@ use lib.Seq.{length-take-le}
 use denote.Ref.{now}
 use Rattle.model.specs.Numbers.{number}
 use Rattle.record.proofs.Laws.{decode-held}
-use Rattle.search.proofs.Asking.{numberable-read, questioned-read, replies-read, Counted, counted, front-back}
+use Rattle.search.proofs.Asking.{pairs-within, numberable-read, questioned-read, replies-read, Counted, counted, front-back}
 use borrow.Author.Needs.{needs}
 use Rattle.search.proofs.question.ask_named.Statement.{statement}
 use Rattle.search.proofs.question.ask_named.Tie as tie
@@ -216,7 +216,7 @@ ask-numbered-requires c κs =
       questioned-read _ _ (first n .pre .0) _ _ (counting n .before .read16 .ensures .0) (counting n .read162 .ensures .0) _ _ _ _ (room n) (seconds-size n) (ones-size n) (twos-size n) _ (n .number-names .ensures)
           _ _ (p .read163 .ensures .0) (q .read164 .ensures .0),
       (
-        (first n .pre .1 .0 .pairs-fit, first n .pre .1 .1 .1),
+        (pairs-within _ _ _ _ (first n .pre .1 .0), first n .pre .1 .1 .1),
         (
           record {
             starts-size = length-take-le _ _ (in-starts n) ∙ sym (length-take-le _ _ (in-firsts n));

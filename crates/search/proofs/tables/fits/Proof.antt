@@ -1,6 +1,6 @@
 -- Each sum that is not too large is one of the three bounds.
 use native.Mathlib.Omega.{arith}
-use Rattle.search.proofs.Asking.{within-not, within-small}
+use Rattle.search.proofs.Asking.{within-not}
 use borrow.Author.Needs.{needs}
 use Rattle.search.proofs.tables.fits.Statement.{statement}
 use Rattle.search.proofs.tables.fits.Tie as tie
@@ -46,10 +46,11 @@ returns-4 c =
     let e2 = c .before .before .before in
     let e1 = e2 .before .before .before in
     λ e.
-    within-small _ _ _ _
-    (omega (arith, e1 .if1 .left, e1 .before .read162 .ensures .0, e1 .before .before .read16 .ensures .0))
-    (omega (arith, e2 .if2 .left, e2 .before .read164 .ensures .0, e2 .before .before .read163 .ensures .0))
-    (omega (arith, c .if3 .left, c .before .read166 .ensures .0, c .before .before .read165 .ensures .0))
+    record {
+      names-fit = omega (arith, e1 .if1 .left, e1 .before .read162 .ensures .0, e1 .before .before .read16 .ensures .0);
+      subgraphs-fit = omega (arith, e2 .if2 .left, e2 .before .read164 .ensures .0, e2 .before .before .read163 .ensures .0);
+      translations-fit = omega (arith, c .if3 .left, c .before .read166 .ensures .0, c .before .before .read165 .ensures .0);
+    }
 
 pub fits-spec : {M : Type 1} → statement M
 fits-spec =
