@@ -12,7 +12,7 @@ use Rattle.model.specs.Layout.{shown, decode}
 use Rattle.model.specs.Questions.{isSome, faultOf}
 use Rattle.model.specs.Outcome.{Outcome, keptOr, addPair}
 use Rattle.edit.proofs.Openings.{opened-refused, opened-done, empty-true, empty-false}
-use Rattle.edit.proofs.Changes.{kept-long}
+use Rattle.edit.proofs.Related.{kept-long}
 
 either-second : (s : Bool) → s || true ≡ true
 either-second true = refl

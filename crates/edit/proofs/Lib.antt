@@ -1,7 +1,4 @@
-pub mod Records
-pub mod Merge
-pub mod MergeAll
 pub mod Openings
-pub mod Copied
-pub mod Changes
+pub mod Related
+pub mod Alone
 pub mod Adding

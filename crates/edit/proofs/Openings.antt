@@ -13,7 +13,7 @@ use Rattle.model.specs.Layout.{recordLength, shown, decode}
 use Rattle.model.specs.Questions.{isSome, faultOf, faultOfBoth}
 use Rattle.model.specs.Outcome.{Outcome, changed, opened, openedBoth}
 use Rattle.text.proofs.Tests.{both-true}
-use Rattle.edit.proofs.Records.{decodes}
+use Rattle.change.proofs.Records.{decodes}
 
 -- 15 for the size, 16 for the contents, or 0
 abbrev wrong : Bool → Bool → ℕ

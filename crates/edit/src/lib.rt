@@ -1,8 +1,4 @@
-// Making and changing records: the operations on record buffers, over the working tables.
-mod changing;
-mod keeping;
-mod loading;
-mod merging;
+// Making and changing records: the operations on record buffers.
 mod operations;
 
 pub use operations::add_relationships;

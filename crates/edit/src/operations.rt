@@ -1,6 +1,6 @@
 // The operations that make and change records. Each gives document 01's number, 0 for done; a refusal leaves the buffer, save that
 // `new` leaves the empty record on 11.
-use crate::changing::change;
+use change::change;
 use model::Kind;
 use record::name_at;
 use tables::Sizes;
@@ -21,7 +21,7 @@ ghost use Rattle.model.specs.Numbers.{number};
 ghost use Rattle.model.specs.Questions.{isSome};
 ghost use Rattle.model.specs.Record.{empty, withName, withPair, withRelationships};
 ghost use Rattle.model.specs.Layout.{nameAt, shown, encode, decode};
-ghost use Rattle.edit.specs.Loading.{LoadRoom};
+ghost use Rattle.change.specs.Loading.{LoadRoom};
 ghost use Rattle.model.specs.Outcome.{keptOr, addPair, addSubgraph, addTranslation, addRelationships, relate, makeSubgraphOf, addTranslationTo, newRecord};
 
 // Adds a pair of a kind to a record, unless either name is empty.

@@ -1,7 +1,7 @@
 -- By the two tests.
 use mathlib.Core.Path.{sym, ap, _∙_}
 use Rattle.model.specs.Outcome.{Outcome}
-use Rattle.edit.proofs.Changes.{new-wrong, new-long, new-short, cleared}
+use Rattle.edit.proofs.Alone.{new-wrong, new-long, new-short, cleared}
 use borrow.Author.Needs.{needs}
 use Rattle.edit.proofs.operations.new.Statement.{statement}
 use Rattle.edit.proofs.operations.new.Tie as tie

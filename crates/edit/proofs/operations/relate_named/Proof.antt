@@ -8,7 +8,7 @@ use Rattle.model.specs.Record.{withPair, withRelationships}
 use Rattle.model.specs.Layout.{nameAt, shown}
 use Rattle.model.specs.Outcome.{Outcome, keptOr}
 use Rattle.text.proofs.Put.{take-put}
-use Rattle.edit.proofs.Records.{is-held, name-short}
+use Rattle.change.proofs.Records.{is-held, name-short}
 use native.Mathlib.Omega.{arith}
 use borrow.Author.Needs.{needs}
 use Rattle.edit.proofs.operations.relate_named.Statement.{statement}

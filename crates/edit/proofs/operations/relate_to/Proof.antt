@@ -3,8 +3,8 @@ use mathlib.Core.Path.{sym, ap, _∙_}
 use Rattle.model.specs.Layout.{shown}
 use Rattle.model.specs.Outcome.{Outcome, related}
 use Rattle.edit.proofs.Openings.{both-refused, both-done}
-use Rattle.edit.proofs.Records.{is-held}
-use Rattle.edit.proofs.Changes.{related-done, related-unnamed, related-parentless}
+use Rattle.change.proofs.Records.{is-held}
+use Rattle.edit.proofs.Related.{related-done, related-unnamed, related-parentless}
 use native.Mathlib.Omega.{arith}
 use borrow.Author.Needs.{needs}
 use Rattle.edit.proofs.operations.relate_to.Statement.{statement}

@@ -4,7 +4,7 @@ use Prim.Native.Nat.{_+_}
 use Rattle.model.specs.Layout.{encode}
 use Rattle.tables.specs.Tables.{Tables, tables, Storable}
 use Rattle.tables.proofs.Judge.{meaning-own}
-use Rattle.edit.proofs.Changes.{nothing, nothing-good, alone-room, alone-storable}
+use Rattle.edit.proofs.Alone.{nothing, nothing-good, alone-room, alone-storable}
 use native.Mathlib.Omega.{arith}
 use borrow.Author.Needs.{needs}
 use Rattle.edit.proofs.operations.write_in.Statement.{statement}

@@ -1,5 +1,5 @@
 -- The tables have room.
-use Rattle.edit.proofs.Changes.{small-alone}
+use Rattle.edit.proofs.Alone.{small-alone}
 use borrow.Author.Needs.{needs}
 use Rattle.edit.proofs.operations.write_name.Statement.{statement}
 use Rattle.edit.proofs.operations.write_name.Tie as tie

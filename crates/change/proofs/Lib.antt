@@ -1,0 +1,5 @@
+pub mod Merge
+pub mod Records
+pub mod MergeAll
+pub mod Copied
+pub mod Changes

@@ -1,0 +1,150 @@
+-- Three tables of numbers, and the bodies as they stand.
+use mathlib.Core.Path.{_≡_, sym, ap, subst, _∙_}
+use mathlib.Core.List.{List}
+use lib.ListN.{length, take, drop}
+use Rattle.model.specs.declared.Kind.the-variants.{Subgraph, Translation}
+use Rattle.model.specs.Bytes.{Bytes, put}
+use Rattle.model.specs.Numbers.{number}
+use Rattle.model.specs.Record.{bodies}
+use Rattle.model.specs.Layout.{shown}
+use Rattle.record.specs.Test.{namesOf, bodiesAt}
+use Rattle.record.proofs.Held.{Held}
+use Rattle.tables.specs.declared.putting.Sizes.{Sizes}
+use Rattle.tables.specs.Tables.{tables}
+use Rattle.change.specs.Loading.{Loaded}
+use Rattle.change.proofs.Records.{is-held, pairs-counted}
+use Rattle.change.proofs.Copied.{shown-names, shown-count, taken-bodies, same-load-room, loaded}
+use native.Mathlib.Omega.{arith}
+use borrow.Author.Needs.{needs}
+use Rattle.change.proofs.loading.load.Statement.{statement}
+use Rattle.change.proofs.loading.load.Tie as tie
+
+-- the counts that are used are the record's
+module _ (s : tie.Start) where
+  held : Held (s .args .b .now)
+  held = is-held (s .args .b .now) (s .pre .1)
+
+  names-are : s .args .sizes .names ≡ number (s .args .b .now) 0
+  names-are = ap (λ (z : Sizes). z .names) (s .pre .2) ∙ shown-count (s .args .b .now) (s .pre .1)
+
+  subgraphs-are : s .args .sizes .subgraph ≡ number (s .args .b .now) 4
+  subgraphs-are = ap (λ (z : Sizes). z .subgraph) (s .pre .2) ∙ pairs-counted (s .args .b .now) (s .pre .1) Subgraph
+
+  translations-are : s .args .sizes .translation ≡ number (s .args .b .now) 6
+  translations-are = ap (λ (z : Sizes). z .translation) (s .pre .2) ∙ pairs-counted (s .args .b .now) (s .pre .1) Translation
+
+  bytes-are : s .args .sizes .bytes ≡ length (bodies (namesOf (s .args .b .now)))
+  bytes-are = ap (λ (z : Sizes). z .bytes) (s .pre .2) ∙ ap (λ (ns : List Bytes). length (bodies ns)) (shown-names (s .args .b .now) (s .pre .1))
+
+-- what is copied are the bodies
+copied : (p : tie.After-part) → let x = p .before .before .before .before .before .before .before .before .before .before .before .before .before .before .before .before .before .before .before .before .args .b .now in
+    p .part .result .now ≡ take (length (bodies (namesOf x))) (drop (bodiesAt x) x)
+copied p =
+    let s = p .before .before .before .before .before .before .before .before .before .before .before .before .before .before .before .before .before .before .before .before in
+    p .part .ensures ∙ rw (bytes-are s, p .before .bodies-at .ensures .0)
+
+load-pairs-requires : tie.Need-load-pairs-requires
+load-pairs-requires c κs =
+    let s = c .before .before .before .before .before .before in
+    (omega (arith, held s .long, held s .count, held s .subgraphs, held s .translations, names-are s, subgraphs-are s, translations-are s, s .pre .0 .count, shown-count (s .args .b .now) (s .pre .1)), omega (arith, held s .long, held s .count, held s .subgraphs, held s .translations, names-are s, subgraphs-are s, translations-are s))
+
+mul-load-pairs : tie.Need-mul-load-pairs
+mul-load-pairs c =
+    let s = c .before .before .before .before .before .before .before .before .before .before in
+    omega (arith, held s .long, held s .count, held s .subgraphs, held s .translations, names-are s, subgraphs-are s, translations-are s)
+
+add-load-pairs : tie.Need-add-load-pairs
+add-load-pairs c =
+    let s = c .before .before .before .before .before .before .before .before .before .before in
+    omega (arith, held s .long, held s .count, held s .subgraphs, held s .translations, names-are s, subgraphs-are s, translations-are s)
+
+load-pairs-requires-2 : tie.Need-load-pairs-requires-2
+load-pairs-requires-2 c κs =
+    let s = c .before .before .before .before .before .before .before .before .before .before in
+    (omega (arith, held s .long, held s .count, held s .subgraphs, held s .translations, names-are s, subgraphs-are s, translations-are s, s .pre .0 .subgraph, pairs-counted (s .args .b .now) (s .pre .1) Subgraph), omega (arith, held s .long, held s .count, held s .subgraphs, held s .translations, names-are s, subgraphs-are s, translations-are s))
+
+mul-load-pairs-2 : tie.Need-mul-load-pairs-2
+mul-load-pairs-2 c =
+    let s = c .before .before .before .before .before .before .before .before .before .before .before .before .before .before in
+    omega (arith, held s .long, held s .count, held s .subgraphs, held s .translations, names-are s, subgraphs-are s, translations-are s)
+
+add-load-pairs-2 : tie.Need-add-load-pairs-2
+add-load-pairs-2 c =
+    let s = c .before .before .before .before .before .before .before .before .before .before .before .before .before .before in
+    omega (arith, held s .long, held s .count, held s .subgraphs, held s .translations, names-are s, subgraphs-are s, translations-are s)
+
+mul-load-pairs-3 : tie.Need-mul-load-pairs-3
+mul-load-pairs-3 c =
+    let s = c .before .before .before .before .before .before .before .before .before .before .before .before .before .before in
+    omega (arith, held s .long, held s .count, held s .subgraphs, held s .translations, names-are s, subgraphs-are s, translations-are s)
+
+add-load-pairs-3 : tie.Need-add-load-pairs-3
+add-load-pairs-3 c =
+    let s = c .before .before .before .before .before .before .before .before .before .before .before .before .before .before in
+    omega (arith, held s .long, held s .count, held s .subgraphs, held s .translations, names-are s, subgraphs-are s, translations-are s)
+
+load-pairs-requires-3 : tie.Need-load-pairs-requires-3
+load-pairs-requires-3 c κs =
+    let s = c .before .before .before .before .before .before .before .before .before .before .before .before .before .before in
+    (omega (arith, held s .long, held s .count, held s .subgraphs, held s .translations, names-are s, subgraphs-are s, translations-are s, s .pre .0 .translation, pairs-counted (s .args .b .now) (s .pre .1) Translation), omega (arith, held s .long, held s .count, held s .subgraphs, held s .translations, names-are s, subgraphs-are s, translations-are s))
+
+bodies-at-requires : tie.Need-bodies-at-requires
+bodies-at-requires c κs = held (c .before .before .before .before .before .before .before .before .before .before .before .before .before .before .before .before .before .before) .long
+
+part-requires : tie.Need-part-requires
+part-requires c κs = search needs
+
+copy-requires : tie.Need-copy-requires
+copy-requires c κs =
+    let s = c .before .before .before .before .before .before .before .before .before .before .before .before .before .before .before .before .before .before .before .before in
+    let e = ap length (copied c) in
+    omega (arith, s .pre .0 .room, ap (λ (ns : List Bytes). length (bodies ns)) (shown-names (s .args .b .now) (s .pre .1)), ap length (taken-bodies (s .args .b .now) (s .pre .1)))
+
+same-length : tie.Need-same-length
+same-length c = search needs
+
+same-length-2 : tie.Need-same-length-2
+same-length-2 c = search needs
+
+same-length-3 : tie.Need-same-length-3
+same-length-3 c = search needs
+
+same-length-4 : tie.Need-same-length-4
+same-length-4 c = search needs
+
+returns : tie.Need-returns
+returns c =
+    let p = c .before .before .before in
+    let s = p .before .before .before .before .before .before .before .before .before .before .before .before .before .before .before .before .before .before .before .before in
+    let a = s .args in
+    let x = a .b .now in
+    let v = s .pre .1 in
+    let l = p .before .before .before .before .before .before .before .before .before .before .before .before .before .load-pairs in
+    let m = p .before .before .before .before .before .before .before .before .before .load-pairs2 in
+    let n = p .before .before .before .before .before .load-pairs3 in
+    let k = c .before .before .copy in
+    let room = same-load-room (shown x) (a .refs .now) (a .subs .now) (a .trans .now) (l .last .0) (m .last .0) (n .last .0) (a .pool .now) (k .last .0) (s .pre .0) (l .kept .0) (m .kept .0) (n .kept .0) (k .kept .0) in
+    subst (λ (z : Sizes). Loaded (shown x) (tables (l .last .0) (m .last .0) (n .last .0) (k .last .0) z)) (sym (s .pre .2))
+    (loaded x v (l .last .0) (m .last .0) (n .last .0) (k .last .0) (a .pool .now) room (rw (names-are s) at (l .ensures)) (rw (names-are s, subgraphs-are s) at (m .ensures)) (rw (names-are s, subgraphs-are s, translations-are s) at (n .ensures)) (k .ensures .1 ∙ ap (put (a .pool .now) 0) (copied p)))
+
+pub load-spec : {M : Type 1} → statement M
+load-spec =
+    tie.close
+    (tie.spec
+    load-pairs-requires
+    mul-load-pairs
+    add-load-pairs
+    load-pairs-requires-2
+    mul-load-pairs-2
+    add-load-pairs-2
+    mul-load-pairs-3
+    add-load-pairs-3
+    load-pairs-requires-3
+    bodies-at-requires
+    part-requires
+    copy-requires
+    same-length
+    same-length-2
+    same-length-3
+    same-length-4
+    returns)
