@@ -18,10 +18,11 @@ use Rattle.record.proofs.Held.{Held}
 use Rattle.record.proofs.Laws.{decode-held}
 use Rattle.search.specs.declared.Reply.{Reply}
 use Rattle.paths.specs.Tables.{edges, Graph, graph, Holds}
-use Rattle.search.specs.Names.{naming, nameOf}
-use Rattle.search.specs.Keys.{Buildable, KindBuilt, TranslationsBuilt}
+use Rattle.union.specs.Names.{naming, nameOf}
+use Rattle.union.specs.Keys.{Buildable, KindBuilt, TranslationsBuilt}
 use Rattle.search.specs.Replies.{Askable, RepliesRight}
-use Rattle.search.specs.Union.{Numbered, Numberable, Questioned, relationsOf, RepliesTo, Named, RepliesFrom, Owned, RepliesOwn}
+use Rattle.union.specs.Numbers.{Numbered, Numberable}
+use Rattle.search.specs.Questions.{Questioned, relationsOf, RepliesTo, Named, RepliesFrom, Owned, RepliesOwn}
 use Rattle.search.specs.Room.{PairsWithin, Within}
 use Rattle.search.proofs.Sides.{record-rise, union-order, side-first, side-second, record-sorted}
 use Rattle.search.proofs.Holding.{holds-full, holds-subgraph}

@@ -18,7 +18,7 @@ use Rattle.record.proofs.Laws.{decode-held}
 use Rattle.record.proofs.Access.{record-own}
 use Rattle.search.specs.declared.Reply.{Reply}
 use Rattle.search.specs.Replies.{Replies}
-use Rattle.search.specs.Union.{relationsOf, Owned, RepliesOwn, askOf}
+use Rattle.search.specs.Questions.{relationsOf, Owned, RepliesOwn, askOf}
 
 module _ (b c : Bytes) (room : ℕ) where
   -- a fault refuses the question

@@ -21,8 +21,8 @@ use Rattle.text.proofs.Places.{getD-member, member-getD}
 use Rattle.record.specs.Test.{pairCount, tableAt}
 use Rattle.record.proofs.Access.{record-pair, record-pairCount}
 use Rattle.paths.specs.Tables.{pairOf, related, Edges, Leaves, graph, edgesOf, target, InOrder, Holds}
-use Rattle.search.specs.Union.{Side}
-use Rattle.search.specs.Keys.{Leads, Built}
+use Rattle.search.specs.Questions.{Side}
+use Rattle.union.specs.Keys.{Leads, Built}
 use Rattle.paths.proofs.Shortest.{names-apart}
 use Rattle.search.proofs.Sides.{pairs-ascending, pair-named}
 

@@ -1,10 +1,4 @@
 pub mod Demand
-pub mod PathBytes
-pub mod Joined
-pub mod Numbering
-pub mod Merging
-pub mod Indexing
-pub mod Rows
 pub mod Sides
 pub mod Holding
 pub mod Replying

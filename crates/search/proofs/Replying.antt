@@ -15,7 +15,7 @@ use Rattle.paths.specs.declared.Place.{Place}
 use Rattle.paths.specs.declared.Place.the-variants.{Found, NotFound}
 use Rattle.paths.specs.Tables.{Graph, Holds}
 use Rattle.paths.specs.Queue.{queued, Room, Searchable, Reached, Kinds, Told, walk}
-use Rattle.search.specs.Names.{Names, nameOf, pathBack, startName, Readback}
+use Rattle.union.specs.Names.{Names, nameOf, pathBack, startName, Readback}
 use Rattle.search.specs.Replies.{Askable, RepliesRight}
 
 -- ------------------------------------------------------------------ tables for the search

@@ -26,10 +26,11 @@ use Rattle.record.proofs.Names.{names-ascending}
 use Rattle.record.proofs.Laws.{decoded, decode-held}
 use Rattle.record.proofs.Access.{pairAt, record-count, record-name, record-pair, record-pairCount, pair-within}
 use Rattle.paths.specs.Tables.{InOrder}
-use Rattle.search.specs.Names.{naming, nameOf}
-use Rattle.search.specs.Union.{NamesRise, Numbered, Side}
-use Rattle.search.specs.Keys.{keyAt, Sorted}
-use Rattle.search.proofs.Numbering.{name-first, name-second, name-same}
+use Rattle.union.specs.Names.{naming, nameOf}
+use Rattle.union.specs.Numbers.{NamesRise, Numbered}
+use Rattle.search.specs.Questions.{Side}
+use Rattle.union.specs.Keys.{keyAt, Sorted}
+use Rattle.union.proofs.Numbering.{name-first, name-second, name-same}
 
 -- the names of a record ascend
 pub record-rise : (b : Bytes) (g : GraphName) → decode b ≡ some g → NamesRise b (number b 0)

@@ -1,5 +1,3 @@
-pub mod Names
-pub mod Keys
 pub mod Replies
 pub mod Room
-pub mod Union
+pub mod Questions

@@ -1,7 +1,7 @@
 -- What a path question gives, beside the definitions of `model`: the case of its reply, and what the output then holds.
 -- Assumes nothing.
 use mathlib.Core.Path.{_≡_}
-use Prim.Native.Nat.{ℕ, _≤_, _<_}
+use Prim.Native.Nat.{ℕ, _<_}
 use lib.ListN.{length}
 use Rattle.model.specs.Bytes.{Bytes}
 use Rattle.model.specs.Path.{Relations, bestPath}
@@ -9,7 +9,7 @@ use Rattle.model.specs.Outcome.{Answer, refusal, notFound, found, answered, siz
 use Rattle.search.specs.declared.Reply.{Reply}
 use Rattle.search.specs.declared.Reply.the-variants.{Refused, No, Yes}
 use Rattle.paths.specs.Tables.{Made, Graph, Holds}
-use Rattle.search.specs.Names.{Names, nameOf, Readable}
+use Rattle.union.specs.Names.{Names, nameOf, Readable}
 
 abbrev pub replyOf : Answer → Reply
 replyOf (refusal n) = Refused n

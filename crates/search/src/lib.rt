@@ -2,12 +2,8 @@
 //
 // The two public functions take any slices and equal the definitions `askSubgraph` and `askFull` of `model/specs/Outcome.antt`;
 // `specs/Replies.antt` says what each case of a reply means. `proofs/Demand.antt` has demand 3 of those definitions.
-mod edges;
-mod names;
 mod question;
 mod tables;
-mod union;
-mod written;
 
 pub use question::is_subgraph_of;
 pub use question::translates_to;

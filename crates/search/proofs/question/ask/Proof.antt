@@ -3,7 +3,7 @@ use native.Mathlib.Omega.{arith}
 use mathlib.Core.Path.{refl, sym, _∙_}
 use lib.ListN.{length}
 use denote.Ref.{now}
-use Rattle.search.specs.Union.{Owned}
+use Rattle.search.specs.Questions.{Owned}
 use Rattle.record.proofs.Laws.{decode-held}
 use Rattle.search.proofs.Asking.{within-large}
 use Rattle.search.proofs.Entry.{Faultless, faultless, ask-fault, ask-unnamed, ask-other-unnamed, owned-read, ask-read}

@@ -1,0 +1,46 @@
+-- Numbers for the names of two records together, in the order of the names: by place in each record the number, and by number
+-- the place in each record plus 1, or 0 where the record does not hold the name. Assumes nothing.
+use mathlib.Core.Path.{_≡_}
+use mathlib.Core.List.{List}
+use Prim.Native.Nat.{ℕ, _+_, _-_, _≤_, _<_}
+use lib.ListN.{length, getD}
+use Rattle.model.specs.declared.Order.{Order}
+use Rattle.model.specs.declared.Order.the-variants.{Less, Equal, Greater}
+use Rattle.model.specs.Bytes.{Bytes, compareBytes}
+use Rattle.model.specs.Layout.{recordLength, nameAt}
+use Rattle.union.specs.Names.{naming, nameOf}
+
+-- the first n names ascend
+abbrev pub NamesRise : Bytes → ℕ → Type 0
+NamesRise b n = (p q : ℕ) → p < q → q < n → compareBytes (nameAt b p) (nameAt b q) ≡ Less
+
+-- the first i names of b and the first j of c have n numbers
+pub record Numbered (b c : Bytes) (firsts seconds ones twos : List ℕ) (i j n : ℕ) : Type 0 where
+  pub few : n ≤ i + j
+  pub ones-in : (p : ℕ) → p < i → (getD ones p 0 < n) × (getD firsts (getD ones p 0) 0 ≡ p + 1)
+  pub twos-in : (p : ℕ) → p < j → (getD twos p 0 < n) × (getD seconds (getD twos p 0) 0 ≡ p + 1)
+  pub firsts-in : (v : ℕ) → v < n → getD firsts v 0 ≤ i
+  pub seconds-in : (v : ℕ) → v < n → getD seconds v 0 ≤ j
+  pub held : (v : ℕ) → v < n → getD firsts v 0 ≡ 0 → 0 < getD seconds v 0
+  pub agree : (v : ℕ) → v < n → 0 < getD firsts v 0 → 0 < getD seconds v 0 → nameAt b (getD firsts v 0 - 1) ≡ nameAt c (getD seconds v 0 - 1)
+  pub order : (u v : ℕ) → u < v → v < n
+      → compareBytes (nameOf (naming b c firsts seconds) u) (nameOf (naming b c firsts seconds) v) ≡ Less
+
+-- two records whose names can be numbered, with room for the numbers
+pub record Numberable (b c : Bytes) (m n : ℕ) (firsts seconds ones twos : List ℕ) : Type 0 where
+  pub first-size : length b ≡ recordLength
+  pub second-size : length c ≡ recordLength
+  pub first-few : m ≤ 512
+  pub second-few : n ≤ 512
+  pub first-rise : NamesRise b m
+  pub second-rise : NamesRise c n
+  pub firsts-room : m + n ≤ length firsts
+  pub seconds-room : m + n ≤ length seconds
+  pub ones-room : m ≤ length ones
+  pub twos-room : n ≤ length twos
+
+-- which record the next number's name is from: the first alone, both, or the second alone
+abbrev pub Next : Bytes → Bytes → ℕ → ℕ → ℕ → ℕ → Order → Type 0
+Next b c m n i j Less = (i < m) × (j < n → compareBytes (nameAt b i) (nameAt c j) ≡ Less)
+Next b c m n i j Equal = (i < m) × (j < n) × (nameAt b i ≡ nameAt c j)
+Next b c m n i j Greater = (j < n) × (i < m → compareBytes (nameAt c j) (nameAt b i) ≡ Less)
