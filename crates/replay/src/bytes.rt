@@ -1,4 +1,5 @@
-// Bytes as the list writes them: two hexadecimal digits for one, printable ones between quotes, and `*N.` for the byte before it N times.
+// Bytes as the list writes them: two hexadecimal digits for one, printable ones between quotes, `t` for a tab and `n` for the end of a
+// line, and `*N.` for the byte before it N times in all.
 use crate::lines::number;
 use crate::lines::past;
 use crate::lines::upto;
@@ -70,6 +71,14 @@ pub(crate) fn read_bytes(s: &[u8], out: &mut [u8]) -> usize {
             b'*' => {
                 at = repeat(out, at, number(upto(s, i + 1, b'.')) as usize);
                 i = past(s, i + 1, b'.');
+            }
+            b't' => {
+                at = put(out, at, b'\t');
+                i += 1;
+            }
+            b'n' => {
+                at = put(out, at, b'\n');
+                i += 1;
             }
             _ => {
                 at = put(out, at, pair_at(s, i));

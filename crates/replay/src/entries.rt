@@ -7,8 +7,17 @@ use crate::texts;
 // The number of the strict reading.
 pub(crate) const STRICT: usize = 20;
 
-// Whether the entry of a number, on what is set, answers with the numbers of a line.
-pub(crate) fn agrees(entry: usize, bytes: &[u8], sizes: &[usize], n: [u64; 12]) -> bool {
+// Whether the entry of a number, on what is set, answers with the numbers of a line, the outputs being as they are before
+// the call.
+pub(crate) fn agrees(
+    entry: usize,
+    bytes: &[u8],
+    sizes: &[usize],
+    n: [u64; 12],
+    out: &mut [u8],
+    out_two: &mut [u8],
+    out_three: &mut [u8],
+) -> bool {
     match entry {
         0 => records::counts(bytes, sizes, n),
         1 => records::name(bytes, sizes, n),
@@ -16,20 +25,20 @@ pub(crate) fn agrees(entry: usize, bytes: &[u8], sizes: &[usize], n: [u64; 12]) 
         3 => records::subgraph_at(bytes, sizes, n),
         4 => records::translation_at(bytes, sizes, n),
         5 => records::is_same(bytes, sizes, n),
-        6 => edits::new(bytes, sizes, n),
-        7 => edits::add_subgraph(bytes, sizes, n),
-        8 => edits::add_translation(bytes, sizes, n),
-        9 => edits::make_subgraph_of(bytes, sizes, n),
-        10 => edits::add_translation_to(bytes, sizes, n),
-        11 => edits::add_relationships(bytes, sizes, n),
-        12 => texts::from_header_lines(bytes, sizes, n),
-        13 => texts::from_tags(bytes, sizes, n),
-        14 => texts::error_message(bytes, sizes, n),
-        15 => texts::to_gfa_header_lines(bytes, sizes, n),
-        16 => texts::to_gaf_header_lines(bytes, sizes, n),
-        17 => texts::set_tags(bytes, sizes, n),
-        18 => questions::is_subgraph_of(bytes, sizes, n),
-        19 => questions::translates_to(bytes, sizes, n),
+        6 => edits::new(bytes, sizes, n, out),
+        7 => edits::add_subgraph(bytes, sizes, n, out),
+        8 => edits::add_translation(bytes, sizes, n, out),
+        9 => edits::make_subgraph_of(bytes, sizes, n, out),
+        10 => edits::add_translation_to(bytes, sizes, n, out),
+        11 => edits::add_relationships(bytes, sizes, n, out),
+        12 => texts::from_header_lines(bytes, sizes, n, out),
+        13 => texts::from_tags(bytes, sizes, n, out),
+        14 => texts::error_message(bytes, sizes, n, out),
+        15 => texts::to_gfa_header_lines(bytes, sizes, n, out),
+        16 => texts::to_gaf_header_lines(bytes, sizes, n, out),
+        17 => texts::set_tags(bytes, sizes, n, out, out_two, out_three),
+        18 => questions::is_subgraph_of(bytes, sizes, n, out),
+        19 => questions::translates_to(bytes, sizes, n, out),
         STRICT => questions::check_strict(bytes, sizes, n),
         _ => false,
     }

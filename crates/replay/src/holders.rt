@@ -65,6 +65,26 @@ pub(crate) fn set(bytes: &mut [u8], sizes: &mut [usize], place: usize, s: &[u8])
     sizes[place] = read_bytes(s, &mut bytes[start..end]);
 }
 
+// Sets the one at a place to the one at another.
+pub(crate) fn set_same(bytes: &mut [u8], sizes: &mut [usize], place: usize, from: usize) {
+    if bytes.len() != 495616 {
+        return;
+    }
+    if sizes.len() != 11 {
+        return;
+    }
+    if 10 < place {
+        return;
+    }
+    if 10 < from {
+        return;
+    }
+    for i in 0..45056 {
+        bytes[45056 * place + i] = bytes[45056 * from + i];
+    }
+    sizes[place] = sizes[from];
+}
+
 // The one at a place.
 pub(crate) fn held<'a>(bytes: &'a [u8], sizes: &[usize], place: usize) -> &'a [u8] {
     if 10 < place {

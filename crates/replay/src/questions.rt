@@ -1,43 +1,35 @@
-// The path questions, whose output goes in as `out` and is to come out as `want`, and the strict reading. The line has the result, and
-// of a question its answer.
+// The path questions, whose output is to come out as `want` says, and the strict reading. The line has the result, and of a question its
+// answer.
 use crate::holders::ONE;
 use crate::holders::OTHER;
-use crate::holders::OUT;
 use crate::holders::RECORD;
 use crate::holders::WANT;
 use crate::holders::held;
-use crate::holders::load;
 use crate::lines::UNWRITTEN;
 
 // Whether `graph_name_is_subgraph_of` answers so.
-pub(crate) fn is_subgraph_of(bytes: &[u8], sizes: &[usize], n: [u64; 12]) -> bool {
-    let mut space = io::large_buffer();
-    let work: &mut [u8] = &mut space;
-    let size = load(work, held(bytes, sizes, OUT));
+pub(crate) fn is_subgraph_of(bytes: &[u8], sizes: &[usize], n: [u64; 12], out: &mut [u8]) -> bool {
     let mut answer = UNWRITTEN;
     let number = graph_name::graph_name_is_subgraph_of(
         held(bytes, sizes, RECORD),
         held(bytes, sizes, OTHER),
-        &mut work[..size],
+        out,
         &mut answer,
     );
-    let same = text::same(text::part(work, 0, size), held(bytes, sizes, WANT));
+    let same = text::same(out, held(bytes, sizes, WANT));
     number as u64 == n[0] && answer == n[1] && same
 }
 
 // Whether `graph_name_translates_to` answers so.
-pub(crate) fn translates_to(bytes: &[u8], sizes: &[usize], n: [u64; 12]) -> bool {
-    let mut space = io::large_buffer();
-    let work: &mut [u8] = &mut space;
-    let size = load(work, held(bytes, sizes, OUT));
+pub(crate) fn translates_to(bytes: &[u8], sizes: &[usize], n: [u64; 12], out: &mut [u8]) -> bool {
     let mut answer = UNWRITTEN;
     let number = graph_name::graph_name_translates_to(
         held(bytes, sizes, RECORD),
         held(bytes, sizes, OTHER),
-        &mut work[..size],
+        out,
         &mut answer,
     );
-    let same = text::same(text::part(work, 0, size), held(bytes, sizes, WANT));
+    let same = text::same(out, held(bytes, sizes, WANT));
     number as u64 == n[0] && answer == n[1] && same
 }
 

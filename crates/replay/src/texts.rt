@@ -1,9 +1,6 @@
-// The entries that read texts and tags, and those that write them. An output goes in as `out` and is to come out as `want`. The line
+// The entries that read texts and tags, and those that write them. The outputs are to come out as `want` says. The line
 // has the result, the numbers that come out, and then those that go in, in the order of the function's parameters.
 use crate::holders::ONE;
-use crate::holders::OUT;
-use crate::holders::OUT_THREE;
-use crate::holders::OUT_TWO;
 use crate::holders::RECORD;
 use crate::holders::THREE;
 use crate::holders::TWO;
@@ -11,7 +8,6 @@ use crate::holders::WANT;
 use crate::holders::WANT_THREE;
 use crate::holders::WANT_TWO;
 use crate::holders::held;
-use crate::holders::load;
 use crate::lines::UNWRITTEN;
 
 // A number that goes in as 32 bits.
@@ -20,29 +16,28 @@ fn narrow(n: u64) -> u32 {
 }
 
 // Whether `graph_name_from_header_lines` answers so.
-pub(crate) fn from_header_lines(bytes: &[u8], sizes: &[usize], n: [u64; 12]) -> bool {
-    let mut space = io::large_buffer();
-    let work: &mut [u8] = &mut space;
-    let size = load(work, held(bytes, sizes, OUT));
+pub(crate) fn from_header_lines(
+    bytes: &[u8],
+    sizes: &[usize],
+    n: [u64; 12],
+    out: &mut [u8],
+) -> bool {
     let mut line = UNWRITTEN;
     let mut start = UNWRITTEN;
     let mut length = UNWRITTEN;
     let number = graph_name::graph_name_from_header_lines(
         held(bytes, sizes, ONE),
-        &mut work[..size],
+        out,
         &mut line,
         &mut start,
         &mut length,
     );
-    let same = text::same(text::part(work, 0, size), held(bytes, sizes, WANT));
+    let same = text::same(out, held(bytes, sizes, WANT));
     number as u64 == n[0] && line == n[1] && start == n[2] && length == n[3] && same
 }
 
 // Whether `graph_name_from_tags` answers so.
-pub(crate) fn from_tags(bytes: &[u8], sizes: &[usize], n: [u64; 12]) -> bool {
-    let mut space = io::large_buffer();
-    let work: &mut [u8] = &mut space;
-    let size = load(work, held(bytes, sizes, OUT));
+pub(crate) fn from_tags(bytes: &[u8], sizes: &[usize], n: [u64; 12], out: &mut [u8]) -> bool {
     let mut line = UNWRITTEN;
     let mut start = UNWRITTEN;
     let mut length = UNWRITTEN;
@@ -53,89 +48,76 @@ pub(crate) fn from_tags(bytes: &[u8], sizes: &[usize], n: [u64; 12]) -> bool {
         held(bytes, sizes, TWO),
         narrow(n[6]),
         held(bytes, sizes, THREE),
-        &mut work[..size],
+        out,
         &mut line,
         &mut start,
         &mut length,
     );
-    let same = text::same(text::part(work, 0, size), held(bytes, sizes, WANT));
+    let same = text::same(out, held(bytes, sizes, WANT));
     number as u64 == n[0] && line == n[1] && start == n[2] && length == n[3] && same
 }
 
 // Whether `graph_name_error_message` answers so.
-pub(crate) fn error_message(bytes: &[u8], sizes: &[usize], n: [u64; 12]) -> bool {
-    let mut space = io::large_buffer();
-    let work: &mut [u8] = &mut space;
-    let size = load(work, held(bytes, sizes, OUT));
+pub(crate) fn error_message(bytes: &[u8], sizes: &[usize], n: [u64; 12], out: &mut [u8]) -> bool {
     let mut written = UNWRITTEN;
     let number = graph_name::graph_name_error_message(
         narrow(n[2]),
         n[3],
         held(bytes, sizes, ONE),
-        &mut work[..size],
+        out,
         &mut written,
     );
-    let same = text::same(text::part(work, 0, size), held(bytes, sizes, WANT));
+    let same = text::same(out, held(bytes, sizes, WANT));
     number as u64 == n[0] && written == n[1] && same
 }
 
 // Whether `graph_name_to_gfa_header_lines` answers so.
-pub(crate) fn to_gfa_header_lines(bytes: &[u8], sizes: &[usize], n: [u64; 12]) -> bool {
-    let mut space = io::large_buffer();
-    let work: &mut [u8] = &mut space;
-    let size = load(work, held(bytes, sizes, OUT));
+pub(crate) fn to_gfa_header_lines(
+    bytes: &[u8],
+    sizes: &[usize],
+    n: [u64; 12],
+    out: &mut [u8],
+) -> bool {
     let mut written = UNWRITTEN;
     let number = graph_name::graph_name_to_gfa_header_lines(
         held(bytes, sizes, RECORD),
-        &mut work[..size],
+        out,
         &mut written,
     );
-    let same = text::same(text::part(work, 0, size), held(bytes, sizes, WANT));
+    let same = text::same(out, held(bytes, sizes, WANT));
     number as u64 == n[0] && written == n[1] && same
 }
 
 // Whether `graph_name_to_gaf_header_lines` answers so.
-pub(crate) fn to_gaf_header_lines(bytes: &[u8], sizes: &[usize], n: [u64; 12]) -> bool {
-    let mut space = io::large_buffer();
-    let work: &mut [u8] = &mut space;
-    let size = load(work, held(bytes, sizes, OUT));
+pub(crate) fn to_gaf_header_lines(
+    bytes: &[u8],
+    sizes: &[usize],
+    n: [u64; 12],
+    out: &mut [u8],
+) -> bool {
     let mut written = UNWRITTEN;
     let number = graph_name::graph_name_to_gaf_header_lines(
         held(bytes, sizes, RECORD),
-        &mut work[..size],
+        out,
         &mut written,
     );
-    let same = text::same(text::part(work, 0, size), held(bytes, sizes, WANT));
+    let same = text::same(out, held(bytes, sizes, WANT));
     number as u64 == n[0] && written == n[1] && same
 }
 
-// Whether `graph_name_set_tags` leaves the three outputs so, and answers so.
-pub(crate) fn set_tags(bytes: &[u8], sizes: &[usize], n: [u64; 12]) -> bool {
-    let mut space = io::large_buffer();
-    let mut space_two = io::large_buffer();
-    let mut space_three = io::large_buffer();
-    let work: &mut [u8] = &mut space;
-    let work_two: &mut [u8] = &mut space_two;
-    let work_three: &mut [u8] = &mut space_three;
-    let size = load(work, held(bytes, sizes, OUT));
-    let size_two = load(work_two, held(bytes, sizes, OUT_TWO));
-    let size_three = load(work_three, held(bytes, sizes, OUT_THREE));
-    let answered = tags_answered(
-        held(bytes, sizes, RECORD),
-        &mut work[..size],
-        &mut work_two[..size_two],
-        &mut work_three[..size_three],
-        n,
-    );
-    let one = text::same(text::part(work, 0, size), held(bytes, sizes, WANT));
-    let two = text::same(
-        text::part(work_two, 0, size_two),
-        held(bytes, sizes, WANT_TWO),
-    );
-    let three = text::same(
-        text::part(work_three, 0, size_three),
-        held(bytes, sizes, WANT_THREE),
-    );
+// Whether `graph_name_set_tags` answers so.
+pub(crate) fn set_tags(
+    bytes: &[u8],
+    sizes: &[usize],
+    n: [u64; 12],
+    out: &mut [u8],
+    out_two: &mut [u8],
+    out_three: &mut [u8],
+) -> bool {
+    let answered = tags_answered(held(bytes, sizes, RECORD), out, out_two, out_three, n);
+    let one = text::same(out, held(bytes, sizes, WANT));
+    let two = text::same(out_two, held(bytes, sizes, WANT_TWO));
+    let three = text::same(out_three, held(bytes, sizes, WANT_THREE));
     answered && one && two && three
 }
 
