@@ -26,6 +26,7 @@ pub use records::graph_name_name;
 pub use records::graph_name_name_at;
 pub use records::graph_name_subgraph_at;
 pub use records::graph_name_translation_at;
+pub use texts::graph_name_describe_relationship;
 pub use texts::graph_name_error_message;
 pub use texts::graph_name_set_tags;
 pub use texts::graph_name_to_gaf_header_lines;

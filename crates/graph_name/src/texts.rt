@@ -1,4 +1,4 @@
-// A record written as text, and a refusal as the Rust's error text.
+// A record written as text, a refusal as the Rust's error text, and how two graphs are related.
 use export::Tag;
 use export::Written;
 use export::WrittenTags;
@@ -6,7 +6,7 @@ ghost use mathlib.Core.Path.{_≡_};
 ghost use lib.ListN.{length};
 ghost use Rattle.model.specs.Questions.{numberOf, valueOr};
 ghost use Rattle.export.specs.Answers.{sizeGiven, tagSize};
-ghost use Rattle.model.specs.Written.{gfaWritten, gafWritten, messageWritten, outputWith, tagsWritten, outputWithTag};
+ghost use Rattle.model.specs.Written.{gfaWritten, gafWritten, messageWritten, relationshipWritten, outputWith, tagsWritten, outputWithTag};
 ghost use Rattle.graph_name.specs.Values.{isPresent, lengthOf, orZero};
 
 // The GFA header lines.
@@ -52,6 +52,26 @@ pub extern "C" fn graph_name_error_message(
 {
     size_out(
         export::error_message(number as usize, line as usize, part, out),
+        written,
+    )
+}
+
+// How the graphs of two records are related, each shown with its desc.
+#[no_mangle]
+pub extern "C" fn graph_name_describe_relationship<'a>(
+    buf: &'a [u8],
+    other: &'a [u8],
+    self_desc: &[u8],
+    other_desc: &[u8],
+    out: &mut [u8],
+    written: &mut u64,
+) -> u32
+    ensures { λ r. ⌜ r ≡ numberOf (relationshipWritten (now (buf .entry)) (now (other .entry)) (now («self_desc» .entry)) (now («other_desc» .entry)) (length (now (out .entry)))) ⌝ }
+    ensures { λ _. ⌜ now (out .exit) ≡ outputWith (relationshipWritten (now (buf .entry)) (now (other .entry)) (now («self_desc» .entry)) (now («other_desc» .entry)) (length (now (out .entry)))) (now (out .entry)) ⌝ }
+    ensures { λ _. ⌜ now (written .exit) ≡ valueOr (now (written .entry)) length (relationshipWritten (now (buf .entry)) (now (other .entry)) (now («self_desc» .entry)) (now («other_desc» .entry)) (length (now (out .entry)))) ⌝ }
+{
+    size_out(
+        describe::describe_relationship(buf, other, self_desc, other_desc, out),
         written,
     )
 }

@@ -7,9 +7,10 @@ use lib.ListN.{length}
 use lib.Dec.{leb}
 use Rattle.model.specs.Bytes.{Bytes, put}
 use Rattle.model.specs.Record.{GraphName}
-use Rattle.model.specs.Questions.{Given, refuses, gives, asked, mapped}
+use Rattle.model.specs.Questions.{Given, refuses, gives, asked, askedBoth, mapped}
 use Rattle.model.specs.Message.{errorMessage}
 use Rattle.model.specs.Writing.{toGfaHeaderLines, toGafHeaderLines, relationsTag}
+use Rattle.model.specs.Describe.{describeRelationship}
 
 -- 17 where the text is longer than the output
 abbrev pub within : ℕ → Given Bytes → Given Bytes
@@ -24,6 +25,15 @@ gafWritten b room = within room (asked b toGafHeaderLines)
 
 unfoldable pub messageWritten : ℕ → ℕ → Bytes → ℕ → Given Bytes
 messageWritten number line part room = within room (gives (errorMessage number line part))
+
+-- 18 where either desc is over 4,096 bytes
+abbrev pub withDescs : Bytes → Bytes → Given Bytes → Given Bytes
+withDescs selfDesc otherDesc (refuses n) = refuses n
+withDescs selfDesc otherDesc (gives t) = cond (leb (length selfDesc) 4096 && leb (length otherDesc) 4096) (gives t) (refuses 18)
+
+unfoldable pub relationshipWritten : Bytes → Bytes → Bytes → Bytes → ℕ → Given Bytes
+relationshipWritten b c selfDesc otherDesc room =
+    within room (withDescs selfDesc otherDesc (askedBoth b c λ g h. describeRelationship g h selfDesc otherDesc))
 
 -- how long the text is, and what the output then holds
 abbrev pub sizeOf : Given Bytes → Given ℕ

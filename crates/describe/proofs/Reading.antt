@@ -1,0 +1,136 @@
+-- What stands in the bytes of a path is the path: its first name, and its legs.
+use mathlib.Core.Path.{_≡_, refl, sym, ap, _∙_}
+use mathlib.Core.List.{List, [], _∷_, _++_, append-assoc}
+use Prim.Native.Nat.{ℕ, zero, suc, _+_, _-_, _*_, _≤_, _<_}
+use native.Mathlib.Omega.{arith}
+use native.Mathlib.Nat.{add-zero}
+use lib.ListN.{length, take, drop, getD, length-append}
+use lib.Seq.{take-append-seam, drop-append-seam, drop-at, drop-drop}
+use Rattle.model.specs.declared.Kind.{Kind}
+use Rattle.model.specs.declared.Kind.the-variants.{Subgraph, Translation}
+use Rattle.model.specs.Bytes.{Bytes}
+use Rattle.model.specs.Numbers.{le16, number}
+use Rattle.model.specs.Path.{Step, kindNumber, pathEntries, pathBodies, pathBytes}
+use Rattle.model.specs.Describe.{legs}
+use Rattle.search.proofs.PathBytes.{length-path}
+use Rattle.describe.specs.Legs.{kindOf, legsAt, PathIn, startAt, pathLegs}
+
+-- ------------------------------------------------------------------ numbers
+
+getD-drop : (p : Bytes) (at i : ℕ) → getD (drop at p) i 0 ≡ getD p (at + i) 0
+getD-drop p zero i = let e : 0 + i ≡ i = omega arith in rw e
+getD-drop [] (suc at) i = refl
+getD-drop (x ∷ p) (suc at) i = let e : suc at + i ≡ suc (at + i) = omega arith in rw e (getD-drop p at i)
+
+number-drop : (p : Bytes) (at i : ℕ) → number (drop at p) i ≡ number p (at + i)
+number-drop p at i = let e : at + i + 1 ≡ at + (i + 1) = omega arith in rw (e, getD-drop p at i, getD-drop p at (i + 1))
+
+number-le16 : (n : ℕ) (r : Bytes) → n < 65536 → number (le16 n ++ r) 0 ≡ n
+number-le16 n r h = omega arith
+
+number-kind : (k : Kind) → kindOf (kindNumber k) ≡ k
+number-kind Subgraph = refl
+number-kind Translation = refl
+
+kind-small : (k : Kind) → kindNumber k < 65536
+kind-small Subgraph = omega arith
+kind-small Translation = omega arith
+
+-- ------------------------------------------------------------------ legs
+
+-- entries and bodies of a path from a stand at these bytes
+pub record Stands (p : Bytes) (e at : ℕ) (a : Bytes) (ss : List Step) : Type 0 where
+  pub entry-rest : Bytes
+  pub body-rest : Bytes
+  pub entries : drop e p ≡ pathEntries a ss ++ entry-rest
+  pub bodies : drop at p ≡ pathBodies a ss ++ body-rest
+  pub few : length (pathBodies a ss) < 65536
+
+first-size : (a : Bytes) (ss : List Step) → length a ≤ length (pathBodies a ss)
+unfolding pathBodies
+first-size a [] = omega arith
+first-size a (s ∷ ss) = omega (arith, length-append a (pathBodies (s .next) ss))
+
+first-entry : (a : Bytes) (ss : List Step) (r : Bytes) → length a < 65536 → number (pathEntries a ss ++ r) 0 ≡ length a
+unfolding pathEntries
+first-entry a [] r h = omega arith
+first-entry a (s ∷ ss) r h = omega arith
+
+first-body : (a : Bytes) (ss : List Step) (r : Bytes) → take (length a) (pathBodies a ss ++ r) ≡ a
+unfolding pathBodies
+first-body a [] r = take-append-seam a r
+first-body a (s ∷ ss) r = rw (append-assoc a (pathBodies (s .next) ss) r) (take-append-seam a (pathBodies (s .next) ss ++ r))
+
+-- the first name
+module _ (p : Bytes) (e at : ℕ) (a : Bytes) (ss : List Step) (t : Stands p e at a ss) where
+  pub size-read : number p e ≡ length a
+  size-read =
+      let d : e + 0 ≡ e = add-zero e in
+      rw d at (sym (number-drop p e 0)) ∙ ap (λ (q : Bytes). number q 0) (t .entries)
+      ∙ first-entry a ss (t .entry-rest) (omega (arith, t .few, first-size a ss))
+
+  pub name-read : take (number p e) (drop at p) ≡ a
+  name-read = rw (size-read, t .bodies) (first-body a ss (t .body-rest))
+
+-- the kind of its step, and what stands behind it
+module _ (p : Bytes) (e at : ℕ) (a : Bytes) (s : Step) (ss : List Step) (t : Stands p e at a (s ∷ ss)) where
+  kind-read : number p (e + 2) ≡ kindNumber (s .kind)
+  unfolding pathEntries
+  kind-read = sym (number-drop p e 2) ∙ ap (λ (q : Bytes). number q 2) (t .entries) ∙ omega (arith, kind-small (s .kind))
+
+  further : Stands p (e + 4) (at + number p e) (s .next) ss
+  unfolding pathEntries pathBodies
+  further = record {
+    entry-rest = t .entry-rest;
+    body-rest = t .body-rest;
+    entries = sym (drop-drop 4 e p) ∙ ap (drop 4) (t .entries);
+    bodies =
+        rw (size-read p e at a (s ∷ ss) t)
+        (sym (drop-drop (length a) at p) ∙ ap (drop (length a)) (t .bodies ∙ append-assoc a (pathBodies (s .next) ss) (t .body-rest))
+        ∙ drop-append-seam a (pathBodies (s .next) ss ++ t .body-rest));
+    few = omega (arith, t .few, length-append a (pathBodies (s .next) ss));
+  }
+
+pub legs-read : (ss : List Step) (a p : Bytes) (e at : ℕ) → Stands p e at a ss → legsAt p e at (length ss) ≡ legs a ss
+unfolding legsAt legs
+legs-read [] a p e at t = refl
+legs-read (s ∷ ss) a p e at t =
+    rw (name-read p e at a (s ∷ ss) t, kind-read p e at a s ss t, number-kind (s .kind), legs-read ss (s .next) p (e + 4) (at + number p e) (further p e at a s ss t))
+
+-- ------------------------------------------------------------------ the whole bytes
+
+length-entries : (a : Bytes) (ss : List Step) → length (pathEntries a ss) ≡ 4 + 4 * length ss
+unfolding pathEntries
+length-entries a [] = refl
+length-entries a (s ∷ ss) = omega (arith, length-entries (s .next) ss)
+
+module _ (p a : Bytes) (ss : List Step) (rest : Bytes) (d : p ≡ pathBytes a ss ++ rest) (size : length p ≡ 49152) where
+  total : 6 + 4 * length ss + length (pathBodies a ss) ≤ 49152
+  total = omega (arith, ap length d, length-append (pathBytes a ss) rest, length-path a ss)
+
+  count-read : number p 0 ≡ suc (length ss)
+  unfolding pathBytes
+  count-read = ap (λ (q : Bytes). number q 0) d ∙ omega (arith, total)
+
+  stands : Stands p 2 (2 + 4 * number p 0) a ss
+  unfolding pathBytes
+  stands = record {
+    entry-rest = pathBodies a ss ++ rest;
+    body-rest = rest;
+    entries = ap (drop 2) d ∙ append-assoc (pathEntries a ss) (pathBodies a ss) rest;
+    bodies =
+        ap (drop (2 + 4 * number p 0)) (d ∙ append-assoc (le16 (suc (length ss)) ++ pathEntries a ss) (pathBodies a ss) rest)
+        ∙ drop-at (le16 (suc (length ss)) ++ pathEntries a ss) (pathBodies a ss ++ rest) (2 + 4 * number p 0) (omega (arith, count-read, length-entries a ss));
+    few = omega (arith, total);
+  }
+
+  pub path-in : PathIn p
+  path-in = record { size = size; some = omega (arith, count-read); end = omega (arith, count-read, total) }
+
+  pub start-read : startAt p ≡ a
+  start-read = name-read p 2 (2 + 4 * number p 0) a ss stands
+
+  pub path-legs : pathLegs p ≡ legs a ss
+  path-legs =
+      let e : number p 0 - 1 ≡ length ss = omega (arith, count-read) in
+      ap (legsAt p 2 (2 + 4 * number p 0)) e ∙ legs-read ss a p 2 (2 + 4 * number p 0) stands

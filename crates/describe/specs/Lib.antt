@@ -1,0 +1,3 @@
+pub mod Legs
+pub mod Lines
+pub mod Direction

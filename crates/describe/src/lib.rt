@@ -1,0 +1,12 @@
+// The description of how the graphs of two records are related, as the Rust words it.
+//
+// The public function takes any slices and equals the definition `relationshipWritten` of `model/specs/Written.antt`.
+mod direction;
+mod graphs;
+mod legs;
+mod lines;
+mod relationship;
+mod steps;
+mod whole;
+
+pub use relationship::describe_relationship;

@@ -1,0 +1,98 @@
+// How two graphs are related: the search, the exchange of the sides, and the text that is written if it fits.
+use crate::direction::Direction;
+use crate::direction::find_path;
+use crate::direction::path_room;
+use crate::legs::after_last_empty;
+use crate::whole::none_length;
+use crate::whole::path_length;
+use crate::whole::put_none;
+use crate::whole::put_path;
+use export::Written;
+use text::part;
+use text::read16;
+ghost use mathlib.Core.Path.{_≡_};
+ghost use mathlib.Core.Bool.{_&&_};
+ghost use lib.Dec.{leb};
+ghost use lib.ListN.{length};
+ghost use Rattle.model.specs.Written.{relationshipWritten};
+ghost use Rattle.export.specs.Answers.{Answers};
+ghost use Rattle.describe.specs.Legs.{PathIn};
+ghost use Rattle.describe.specs.Lines.{noneTold, Owner};
+ghost use Rattle.describe.specs.Direction.{Finds, toldOf, pathTold};
+
+// Whether neither desc is over 4,096 bytes.
+fn short(from: &[u8], to: &[u8]) -> bool
+    ensures { λ r. ⌜ r ≡ (leb (length (now (from .entry))) 4096 && leb (length (now (to .entry))) 4096) ⌝ }
+{
+    from.len() <= 4096 && to.len() <= 4096
+}
+
+// Writes the text of the path whose bytes are given.
+fn describe_path(path: &[u8], from: &[u8], to: &[u8], out: &mut [u8]) -> Written
+    requires { ⌜ PathIn (now path) ⌝ }
+    ensures { λ r. ⌜ Answers (toldOf (pathTold (now (path .entry)) (now (from .entry)) (now (to .entry))) (now (from .entry)) (now (to .entry)) (length (now (out .entry)))) (now (out .entry)) r (now (out .exit)) ⌝ }
+{
+    if !short(from, to) {
+        return Written::Refused(18);
+    }
+    let n = read16(path, 0);
+    let legs = after_last_empty(path, 2, 2 + 4 * n, n - 1);
+    let entry = legs.entry;
+    let body = legs.body;
+    let count = legs.count;
+    let start = part(path, 2 + 4 * n, read16(path, 2));
+    if out.len() < path_length(path, entry, body, count, start, from, to) {
+        return Written::Refused(17);
+    }
+    Written::Wrote(put_path(out, path, entry, body, count, start, from, to))
+}
+
+// Writes the text of two graphs with no path between them.
+fn describe_none(b: &[u8], c: &[u8], from: &[u8], to: &[u8], out: &mut [u8]) -> Written
+    requires { ⌜ Owner (now b) × Owner (now c) ⌝ }
+    ensures { λ r. ⌜ Answers (toldOf (noneTold (now (b .entry)) (now (c .entry)) (now (from .entry)) (now (to .entry))) (now (from .entry)) (now (to .entry)) (length (now (out .entry)))) (now (out .entry)) r (now (out .exit)) ⌝ }
+{
+    if !short(from, to) {
+        return Written::Refused(18);
+    }
+    if out.len() < none_length(b, c, from, to) {
+        return Written::Refused(17);
+    }
+    Written::Wrote(put_none(out, b, c, from, to))
+}
+
+// Writes what was found, the sides exchanged unless the path leads from the first graph to the second.
+fn describe_found(
+    way: Direction,
+    path: &[u8],
+    b: &[u8],
+    c: &[u8],
+    self_desc: &[u8],
+    other_desc: &[u8],
+    out: &mut [u8],
+) -> Written
+    requires { ⌜ Finds (now b) (now c) way (now path) ⌝ }
+    ensures { λ r. ⌜ Answers (relationshipWritten (now (b .entry)) (now (c .entry)) (now («self_desc» .entry)) (now («other_desc» .entry)) (length (now (out .entry)))) (now (out .entry)) r (now (out .exit)) ⌝ }
+{
+    match way {
+        Direction::Refused(n) => Written::Refused(n),
+        Direction::Forward => describe_path(path, self_desc, other_desc, out),
+        Direction::Backward => describe_path(path, other_desc, self_desc, out),
+        Direction::Neither => describe_none(c, b, other_desc, self_desc, out),
+    }
+}
+
+// Describes how the graph of b is related to that of c.
+pub fn describe_relationship<'a>(
+    b: &'a [u8],
+    c: &'a [u8],
+    self_desc: &[u8],
+    other_desc: &[u8],
+    out: &mut [u8],
+) -> Written
+    ensures { λ r. ⌜ Answers (relationshipWritten (now (b .entry)) (now (c .entry)) (now («self_desc» .entry)) (now («other_desc» .entry)) (length (now (out .entry)))) (now (out .entry)) r (now (out .exit)) ⌝ }
+{
+    let mut path = path_room();
+    let way = find_path(b, c, &mut path);
+    describe_found(way, &path, b, c, self_desc, other_desc, out)
+}
