@@ -40,6 +40,7 @@ pub(crate) fn agrees(
         18 => questions::is_subgraph_of(bytes, sizes, n, out),
         19 => questions::translates_to(bytes, sizes, n, out),
         STRICT => questions::check_strict(bytes, sizes, n),
+        21 => questions::describe_relationship(bytes, sizes, n, out),
         _ => false,
     }
 }

@@ -33,7 +33,7 @@ fn replay(list: &[u8]) {
     let mut result_space = counting::number_counts();
     let results: &mut [usize] = &mut result_space;
     let names =
-        b"counts name name_at subgraph_at translation_at is_same new add_subgraph add_translation make_subgraph_of add_translation_to add_relationships from_header_lines from_tags error_message to_gfa_header_lines to_gaf_header_lines set_tags is_subgraph_of translates_to check_strict ";
+        b"counts name name_at subgraph_at translation_at is_same new add_subgraph add_translation make_subgraph_of add_translation_to add_relationships from_header_lines from_tags error_message to_gfa_header_lines to_gaf_header_lines set_tags is_subgraph_of translates_to check_strict describe_relationship ";
     replaying::take_all(names, list, bytes, sizes, counts, results);
     counting::print_entries(names, counts);
     counting::print_numbers(results);

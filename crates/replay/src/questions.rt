@@ -1,8 +1,9 @@
-// The path questions, whose output is to come out as `want` says, and the strict reading. The line has the result, and of a question its
-// answer.
+// The path questions and the description, whose output is to come out as `want` says, and the strict reading. The line has the result,
+// and of a question its answer, of a description how many bytes were written.
 use crate::holders::ONE;
 use crate::holders::OTHER;
 use crate::holders::RECORD;
+use crate::holders::TWO;
 use crate::holders::WANT;
 use crate::holders::held;
 use crate::lines::UNWRITTEN;
@@ -36,4 +37,24 @@ pub(crate) fn translates_to(bytes: &[u8], sizes: &[usize], n: [u64; 12], out: &m
 // Whether `graph_name_check_strict` answers so.
 pub(crate) fn check_strict(bytes: &[u8], sizes: &[usize], n: [u64; 12]) -> bool {
     graph_name::graph_name_check_strict(held(bytes, sizes, ONE)) == n[0]
+}
+
+// Whether `graph_name_describe_relationship` answers so.
+pub(crate) fn describe_relationship(
+    bytes: &[u8],
+    sizes: &[usize],
+    n: [u64; 12],
+    out: &mut [u8],
+) -> bool {
+    let mut written = UNWRITTEN;
+    let number = graph_name::graph_name_describe_relationship(
+        held(bytes, sizes, RECORD),
+        held(bytes, sizes, OTHER),
+        held(bytes, sizes, ONE),
+        held(bytes, sizes, TWO),
+        out,
+        &mut written,
+    );
+    let same = text::same(out, held(bytes, sizes, WANT));
+    number as u64 == n[0] && written == n[1] && same
 }
