@@ -4,20 +4,15 @@ use crate::counting::count_entry;
 use crate::counting::mismatches;
 use crate::counting::print;
 use crate::counting::print_number;
-use crate::entries::STRICT;
-use crate::entries::agrees;
-use crate::holders::OUT;
-use crate::holders::OUT_THREE;
-use crate::holders::OUT_TWO;
-use crate::holders::held;
-use crate::holders::holder;
-use crate::holders::load;
-use crate::holders::set;
-use crate::holders::set_same;
-use crate::lines::numbers;
-use crate::lines::past;
-use crate::lines::place_of;
-use crate::lines::upto;
+use answers::STRICT;
+use answers::agrees;
+use listed::holder;
+use listed::numbers;
+use listed::past;
+use listed::place_of;
+use listed::set;
+use listed::set_same;
+use listed::upto;
 
 // Prints a line of the list with its number, unless there were 20 mismatches already.
 fn print_line(counts: &[usize], number: usize, line: &[u8]) {
@@ -54,28 +49,6 @@ fn count_result(results: &mut [usize], entry: usize, wanted: u64) {
     }
 }
 
-// Whether the entry of a number, on what is set, answers with the numbers of a line: the outputs are copied for the call.
-fn answered(entry: usize, bytes: &[u8], sizes: &[usize], n: [u64; 12]) -> bool {
-    let mut space = io::large_buffer();
-    let mut space_two = io::large_buffer();
-    let mut space_three = io::large_buffer();
-    let out: &mut [u8] = &mut space;
-    let out_two: &mut [u8] = &mut space_two;
-    let out_three: &mut [u8] = &mut space_three;
-    let size = load(out, held(bytes, sizes, OUT));
-    let size_two = load(out_two, held(bytes, sizes, OUT_TWO));
-    let size_three = load(out_three, held(bytes, sizes, OUT_THREE));
-    agrees(
-        entry,
-        bytes,
-        sizes,
-        n,
-        &mut out[..size],
-        &mut out_two[..size_two],
-        &mut out_three[..size_three],
-    )
-}
-
 // Makes the call of a line that begins with an entry's name, or with `!` and that name if it is wrong on purpose. A line with another
 // word is a mismatch.
 fn call(
@@ -91,17 +64,11 @@ fn call(
     let n = numbers(text::part(line, word.len() + 1, line.len()));
     if text::same(text::part(word, 0, 1), b"!") {
         let entry = place_of(names, text::part(word, 1, word.len()));
-        count_wrong(counts, entry, answered(entry, bytes, sizes, n));
+        count_wrong(counts, entry, agrees(entry, bytes, sizes, n));
         return;
     }
     let entry = place_of(names, word);
-    count_right(
-        counts,
-        entry,
-        answered(entry, bytes, sizes, n),
-        number,
-        line,
-    );
+    count_right(counts, entry, agrees(entry, bytes, sizes, n), number, line);
     count_result(results, entry, n[0]);
 }
 

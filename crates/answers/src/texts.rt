@@ -1,14 +1,14 @@
 // The entries that read texts and tags, and those that write them. The outputs are to come out as `want` says. The line
 // has the result, the numbers that come out, and then those that go in, in the order of the function's parameters.
-use crate::holders::ONE;
-use crate::holders::RECORD;
-use crate::holders::THREE;
-use crate::holders::TWO;
-use crate::holders::WANT;
-use crate::holders::WANT_THREE;
-use crate::holders::WANT_TWO;
-use crate::holders::held;
-use crate::lines::UNWRITTEN;
+use listed::ONE;
+use listed::RECORD;
+use listed::THREE;
+use listed::TWO;
+use listed::UNWRITTEN;
+use listed::WANT;
+use listed::WANT_THREE;
+use listed::WANT_TWO;
+use listed::held;
 
 // A number that goes in as 32 bits.
 fn narrow(n: u64) -> u32 {

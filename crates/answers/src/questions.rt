@@ -1,12 +1,12 @@
 // The path questions and the description, whose output is to come out as `want` says, and the strict reading. The line has the result,
 // and of a question its answer, of a description how many bytes were written.
-use crate::holders::ONE;
-use crate::holders::OTHER;
-use crate::holders::RECORD;
-use crate::holders::TWO;
-use crate::holders::WANT;
-use crate::holders::held;
-use crate::lines::UNWRITTEN;
+use listed::ONE;
+use listed::OTHER;
+use listed::RECORD;
+use listed::TWO;
+use listed::UNWRITTEN;
+use listed::WANT;
+use listed::held;
 
 // Whether `graph_name_is_subgraph_of` answers so.
 pub(crate) fn is_subgraph_of(bytes: &[u8], sizes: &[usize], n: [u64; 12], out: &mut [u8]) -> bool {

@@ -4,10 +4,10 @@ use borrow.Author.Needs.{needs}
 use Prim.Native.Nat.{_+_, _-_, _≤_}
 use lib.ListN.{length}
 use mathlib.Core.Path.{_≡_}
-use Rattle.replay.proofs.holders.set_same.Statement.{statement}
-use Rattle.replay.proofs.holders.set_same.Tie as tie
-use Rattle.replay.proofs.holders.set_same.Reads as reads
-use Rattle.replay.proofs.holders.set_same.Lts as lts
+use Rattle.listed.proofs.holders.set_same.Statement.{statement}
+use Rattle.listed.proofs.holders.set_same.Tie as tie
+use Rattle.listed.proofs.holders.set_same.Reads as reads
+use Rattle.listed.proofs.holders.set_same.Lts as lts
 
 abbrev Inv-loop : tie.InvT-loop
 Inv-loop bytes₀ sizes place from i₀ bytes i = length bytes ≡ length bytes₀

@@ -1,10 +1,10 @@
 // The entries that make and change records. The buffer, the output of the call, is to come out as `want` says; the line
 // has the result alone.
-use crate::holders::ONE;
-use crate::holders::OTHER;
-use crate::holders::TWO;
-use crate::holders::WANT;
-use crate::holders::held;
+use listed::ONE;
+use listed::OTHER;
+use listed::TWO;
+use listed::WANT;
+use listed::held;
 
 // Whether `graph_name_new` answers so.
 pub(crate) fn new(bytes: &[u8], sizes: &[usize], n: [u64; 12], out: &mut [u8]) -> bool {

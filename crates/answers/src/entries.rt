@@ -1,15 +1,20 @@
-// The entries by number, in the order of their names in `main`.
+// The entries by number, in the order of their names in the program `replay`.
 use crate::edits;
 use crate::questions;
 use crate::records;
 use crate::texts;
+use listed::OUT;
+use listed::OUT_THREE;
+use listed::OUT_TWO;
+use listed::held;
+use listed::load;
 
 // The number of the strict reading.
-pub(crate) const STRICT: usize = 20;
+pub const STRICT: usize = 20;
 
 // Whether the entry of a number, on what is set, answers with the numbers of a line, the outputs being as they are before
 // the call.
-pub(crate) fn agrees(
+fn called(
     entry: usize,
     bytes: &[u8],
     sizes: &[usize],
@@ -43,4 +48,26 @@ pub(crate) fn agrees(
         21 => questions::describe_relationship(bytes, sizes, n, out),
         _ => false,
     }
+}
+
+// Whether the entry of a number, on what is set, answers with the numbers of a line: the outputs are copied for the call.
+pub fn agrees(entry: usize, bytes: &[u8], sizes: &[usize], n: [u64; 12]) -> bool {
+    let mut space = io::large_buffer();
+    let mut space_two = io::large_buffer();
+    let mut space_three = io::large_buffer();
+    let out: &mut [u8] = &mut space;
+    let out_two: &mut [u8] = &mut space_two;
+    let out_three: &mut [u8] = &mut space_three;
+    let size = load(out, held(bytes, sizes, OUT));
+    let size_two = load(out_two, held(bytes, sizes, OUT_TWO));
+    let size_three = load(out_three, held(bytes, sizes, OUT_THREE));
+    called(
+        entry,
+        bytes,
+        sizes,
+        n,
+        &mut out[..size],
+        &mut out_two[..size_two],
+        &mut out_three[..size_three],
+    )
 }

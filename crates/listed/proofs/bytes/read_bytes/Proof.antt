@@ -4,17 +4,17 @@ use borrow.Author.Needs.{needs}
 use Prim.Native.Nat.{_+_, _-_, _≤_}
 use lib.ListN.{length}
 use mathlib.Core.Path.{_≡_}
-use Rattle.replay.proofs.bytes.read_bytes.Statement.{statement}
-use Rattle.replay.proofs.bytes.read_bytes.Tie as tie
-use Rattle.replay.proofs.bytes.read_bytes.Reads as reads
-use Rattle.replay.proofs.bytes.read_bytes.Lts as lts
-use Rattle.replay.proofs.bytes.pair_at.Reads as pair-at-reads
-use Rattle.replay.proofs.bytes.put.Reads as put-reads
-use Rattle.replay.proofs.bytes.put_all.Reads as put-all-reads
-use Rattle.replay.proofs.bytes.repeat.Reads as repeat-reads
-use Rattle.replay.proofs.lines.number.Reads as number-reads
-use Rattle.replay.proofs.lines.past.Reads as past-reads
-use Rattle.replay.proofs.lines.upto.Reads as upto-reads
+use Rattle.listed.proofs.bytes.read_bytes.Statement.{statement}
+use Rattle.listed.proofs.bytes.read_bytes.Tie as tie
+use Rattle.listed.proofs.bytes.read_bytes.Reads as reads
+use Rattle.listed.proofs.bytes.read_bytes.Lts as lts
+use Rattle.listed.proofs.bytes.pair_at.Reads as pair-at-reads
+use Rattle.listed.proofs.bytes.put.Reads as put-reads
+use Rattle.listed.proofs.bytes.put_all.Reads as put-all-reads
+use Rattle.listed.proofs.bytes.repeat.Reads as repeat-reads
+use Rattle.listed.proofs.lines.number.Reads as number-reads
+use Rattle.listed.proofs.lines.past.Reads as past-reads
+use Rattle.listed.proofs.lines.upto.Reads as upto-reads
 
 abbrev Inv-loop : tie.InvT-loop
 Inv-loop s out₀ i₀ at₀ out i at = length out ≡ length out₀

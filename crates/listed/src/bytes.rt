@@ -59,7 +59,7 @@ fn pair_at(s: &[u8], at: usize) -> u8 {
 }
 
 // Writes the bytes that s stands for to the front of the output, and gives their number.
-pub(crate) fn read_bytes(s: &[u8], out: &mut [u8]) -> usize {
+pub fn read_bytes(s: &[u8], out: &mut [u8]) -> usize {
     let mut i = 0;
     let mut at = 0;
     while i < s.len() {
