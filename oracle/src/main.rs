@@ -1,8 +1,8 @@
 //! Compares the functions of `libgraph_name.a` with the Rust module `src/name.rs` of gbwt-rs, which is built as it stands, and with models
 //! written from document 01 where the Rust has no counterpart.
 //!
-//! The program takes the number of rounds in thousands, and `--self` to check the models alone. `oracle/run` builds and runs it, and
-//! passes `have_NAME` for each function that the library exports.
+//! The program takes the number of rounds in thousands; `--self` to check the models alone; or `--list FILE WORDS` to write the fixed list,
+//! the words saying how. `oracle/run` builds and runs it, and passes `have_NAME` for each function that the library exports.
 
 #![cfg_attr(not(have_all), allow(dead_code))]
 
@@ -13,6 +13,7 @@ mod encoder;
 mod generate;
 mod graph;
 mod limits;
+mod list;
 mod model_paths;
 mod model_reading;
 mod model_strict;
@@ -46,8 +47,7 @@ macro_rules! compare {
 
 /// Compares all entries.
 #[cfg_attr(not(have_all), allow(unused_variables))]
-fn entries(rounds: usize) -> Report {
-    let mut report = Report::default();
+fn entries(mut report: Report, rounds: usize) -> Report {
     compare!(report, rounds,
         have_counts records::counts,
         have_name records::name,
@@ -80,12 +80,25 @@ fn run(rounds: usize, models_alone: bool) -> bool {
     let mut models = Report::default();
     self_check::run(&mut models, rounds);
     let agreed = models.print("models against the Rust");
-    agreed & (models_alone || entries(rounds).print("library against the Rust and the models"))
+    agreed & (models_alone || entries(Report::default(), rounds).print("library against the Rust and the models"))
+}
+
+/// Compares all entries once and writes the fixed list. The result is whether all agreed.
+fn write_list(file: &str, made: &str) -> bool {
+    let report = entries(Report::with_sample(), 1000);
+    let text = report.sample().map_or(String::new(), |sample| sample.text(made));
+    println!("{}: {} lines, {} bytes", file, text.lines().count(), text.len());
+    std::fs::write(file, text).is_ok() & report.print("library against the Rust and the models")
 }
 
 /// Runs the comparisons on a stack of 640 KB, since no entry is to take more than 512 KB. Fails on a mismatch.
 fn main() -> ExitCode {
     let words: Vec<String> = std::env::args().skip(1).collect();
+    if let [mode, file, made] = &words[..] {
+        if mode == "--list" {
+            return if write_list(file, made) { ExitCode::SUCCESS } else { ExitCode::FAILURE };
+        }
+    }
     let thousands = words.iter().find_map(|word| word.parse::<usize>().ok()).unwrap_or(1);
     let models_alone = words.iter().any(|word| word == "--self");
     let thread = std::thread::Builder::new().stack_size(640 * 1024).spawn(move || run(1000 * thousands, models_alone));

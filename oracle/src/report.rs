@@ -1,5 +1,6 @@
 //! Counts of comparisons for each entry, and for each entry with a mismatch the one with the smallest input.
 
+use crate::list::{Listed, Sample};
 use std::collections::{BTreeMap, BTreeSet};
 use std::fmt::{self, Debug, Formatter};
 
@@ -64,13 +65,32 @@ struct Entry {
 pub struct Report {
     entries: BTreeMap<&'static str, Entry>,
     absent: Vec<&'static str>,
+    sample: Option<Sample>,
 }
 
 impl Report {
+    /// A report that keeps a sample of the comparisons for the fixed list.
+    pub fn with_sample() -> Report {
+        Report { sample: Some(Sample::default()), ..Report::default() }
+    }
+
+    /// The sample.
+    pub fn sample(&self) -> Option<&Sample> {
+        self.sample.as_ref()
+    }
+
     /// Counts a comparison of what a call gives: its result and all else.
-    pub fn compare<T: PartialEq + Debug>(&mut self, name: &'static str, inputs: &Inputs, expected: (u32, T), got: (u32, T)) {
+    pub fn compare<T: PartialEq + Debug + Listed>(&mut self, name: &'static str, inputs: &Inputs, expected: (u32, T), got: (u32, T)) {
         self.entries.entry(name).or_default().numbers.insert(expected.0);
+        self.list(name, inputs, expected.0.into(), &expected.1);
         self.check(name, inputs, &expected, &got);
+    }
+
+    /// Offers a comparison to the sample, if there is one.
+    pub fn list(&mut self, name: &'static str, inputs: &Inputs, result: u64, expected: &dyn Listed) {
+        if let Some(sample) = &mut self.sample {
+            sample.offer(name, inputs, result, expected);
+        }
     }
 
     /// Counts a comparison, and keeps it if it is the smallest mismatch of its entry.

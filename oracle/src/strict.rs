@@ -28,7 +28,10 @@ const LINE_PARTS: [&[u8]; 22] = [
 pub fn check_strict(report: &mut Report, rounds: usize) {
     let grammar = Grammar::new();
     let mut check = |line: &[u8]| {
-        report.check("check_strict", &[("line", Input::Bytes(line))], &grammar.check(line), &graph_name::check_strict(line));
+        let inputs = [("line", Input::Bytes(line))];
+        let expected = grammar.check(line);
+        report.list("check_strict", &inputs, expected, &[0; 0]);
+        report.check("check_strict", &inputs, &expected, &graph_name::check_strict(line));
     };
     each_value(rounds, &mut check);
     each_byte(&mut check);

@@ -1,5 +1,6 @@
 // Runs document 01's examples that are not marked T, and the GFA 1 specification's own header example. A line for each answer says what
 // came out, and whether it is as stated; the last line counts both.
+mod description;
 mod lines;
 mod output;
 mod program;
@@ -14,7 +15,7 @@ fn main() {
         stated: 0,
         differ: 0,
     };
-    let c = lines::run(program::run(sizes::run(none)));
+    let c = lines::run(program::run(description::run(sizes::run(none))));
     print_number(c.stated);
     print(b" as stated, ");
     print_number(c.differ);

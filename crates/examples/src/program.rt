@@ -13,7 +13,7 @@ use parse::Answer;
 use record::GivenCounts;
 
 // The text that a writer put to the front of the output, beside the one that is stated.
-fn written(c: Counts, label: &[u8], w: Written, out: &[u8], stated: &[u8]) -> Counts {
+pub(crate) fn written(c: Counts, label: &[u8], w: Written, out: &[u8], stated: &[u8]) -> Counts {
     match w {
         Written::Refused(n) => number(c, label, n as usize, 0),
         Written::Wrote(n) => shown(c, label, text::part(out, 0, n), stated),

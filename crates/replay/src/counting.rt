@@ -1,8 +1,8 @@
 // Counts for each entry and in total: cases, mismatches, answers that are wrong on purpose, and those of them that were noticed. And how
 // often each number from 0 to 18 is the result that is wanted.
-use crate::lines::past;
-use crate::lines::upto;
 use libc::STDOUT_FILENO;
+use listed::past;
+use listed::upto;
 ghost use mathlib.Core.Path.{_≡_};
 ghost use lib.ListN.{length};
 

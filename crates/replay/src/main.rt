@@ -1,15 +1,7 @@
 // Replays the fixed list of the oracle's answers, which stands on standard input: makes each of its calls, compares what comes out, and
 // prints the lines that are not so and the counts. The list says how it was made and what its lines mean.
-mod bytes;
 mod counting;
-mod edits;
-mod entries;
-mod holders;
-mod lines;
-mod questions;
-mod records;
 mod replaying;
-mod texts;
 
 use libc::STDIN_FILENO;
 ghost use mathlib.Core.Path.{_≡_};
@@ -24,16 +16,16 @@ fn list_buffer() -> [u8; 524288]
 
 // Replays a list.
 fn replay(list: &[u8]) {
-    let mut holder_space = holders::holder_buffer();
+    let mut holder_space = listed::holder_buffer();
     let bytes: &mut [u8] = &mut holder_space;
-    let mut size_space = holders::holder_sizes();
+    let mut size_space = listed::holder_sizes();
     let sizes: &mut [usize] = &mut size_space;
     let mut count_space = counting::entry_counts();
     let counts: &mut [usize] = &mut count_space;
     let mut result_space = counting::number_counts();
     let results: &mut [usize] = &mut result_space;
     let names =
-        b"counts name name_at subgraph_at translation_at is_same new add_subgraph add_translation make_subgraph_of add_translation_to add_relationships from_header_lines from_tags error_message to_gfa_header_lines to_gaf_header_lines set_tags is_subgraph_of translates_to check_strict ";
+        b"counts name name_at subgraph_at translation_at is_same new add_subgraph add_translation make_subgraph_of add_translation_to add_relationships from_header_lines from_tags error_message to_gfa_header_lines to_gaf_header_lines set_tags is_subgraph_of translates_to check_strict describe_relationship ";
     replaying::take_all(names, list, bytes, sizes, counts, results);
     counting::print_entries(names, counts);
     counting::print_numbers(results);

@@ -4,14 +4,15 @@ use crate::counting::count_entry;
 use crate::counting::mismatches;
 use crate::counting::print;
 use crate::counting::print_number;
-use crate::entries::STRICT;
-use crate::entries::agrees;
-use crate::holders::holder;
-use crate::holders::set;
-use crate::lines::numbers;
-use crate::lines::past;
-use crate::lines::place_of;
-use crate::lines::upto;
+use answers::STRICT;
+use answers::agrees;
+use listed::holder;
+use listed::numbers;
+use listed::past;
+use listed::place_of;
+use listed::set;
+use listed::set_same;
+use listed::upto;
 
 // Prints a line of the list with its number, unless there were 20 mismatches already.
 fn print_line(counts: &[usize], number: usize, line: &[u8]) {
@@ -61,8 +62,7 @@ fn call(
 ) {
     let word = upto(line, 0, b' ');
     let n = numbers(text::part(line, word.len() + 1, line.len()));
-    let wrong = text::same(text::part(word, 0, 1), b"!");
-    if wrong {
+    if text::same(text::part(word, 0, 1), b"!") {
         let entry = place_of(names, text::part(word, 1, word.len()));
         count_wrong(counts, entry, agrees(entry, bytes, sizes, n));
         return;
@@ -70,6 +70,15 @@ fn call(
     let entry = place_of(names, word);
     count_right(counts, entry, agrees(entry, bytes, sizes, n), number, line);
     count_result(results, entry, n[0]);
+}
+
+// Sets the byte string at a place as a line says: to that of a name behind `=`, or to bytes.
+fn set_as(bytes: &mut [u8], sizes: &mut [usize], place: usize, s: &[u8]) {
+    if text::same(text::part(s, 0, 1), b"=") {
+        set_same(bytes, sizes, place, holder(text::part(s, 1, s.len())));
+        return;
+    }
+    set(bytes, sizes, place, s);
 }
 
 // Takes one line: an empty one, or one that begins with `#`, says nothing.
@@ -91,7 +100,7 @@ fn take(
     let word = upto(line, 0, b' ');
     let place = holder(word);
     if place < 11 {
-        set(
+        set_as(
             bytes,
             sizes,
             place,

@@ -10,8 +10,8 @@ use Rattle.replay.proofs.counting.print_entries.Reads as reads
 use Rattle.replay.proofs.counting.print_entries.Lts as lts
 use Rattle.replay.proofs.counting.print.Reads as print-reads
 use Rattle.replay.proofs.counting.print_entry.Reads as print-entry-reads
-use Rattle.replay.proofs.lines.past.Reads as past-reads
-use Rattle.replay.proofs.lines.upto.Reads as upto-reads
+use Rattle.listed.proofs.past.Reads as past-reads
+use Rattle.listed.proofs.upto.Reads as upto-reads
 
 abbrev Inv-loop : tie.InvT-loop
 Inv-loop names counts from₀ entry₀ t5 t6 from entry = entry ≤ from

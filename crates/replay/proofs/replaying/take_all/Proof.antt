@@ -8,8 +8,8 @@ use Rattle.replay.proofs.replaying.take_all.Statement.{statement}
 use Rattle.replay.proofs.replaying.take_all.Tie as tie
 use Rattle.replay.proofs.replaying.take_all.Reads as reads
 use Rattle.replay.proofs.replaying.take_all.Lts as lts
-use Rattle.replay.proofs.lines.past.Reads as past-reads
-use Rattle.replay.proofs.lines.upto.Reads as upto-reads
+use Rattle.listed.proofs.past.Reads as past-reads
+use Rattle.listed.proofs.upto.Reads as upto-reads
 use Rattle.replay.proofs.replaying.take.Reads as take-reads
 
 abbrev Inv-loop : tie.InvT-loop

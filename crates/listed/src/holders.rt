@@ -5,30 +5,30 @@ ghost use lib.ListN.{length};
 ghost use Rattle.io.specs.Counts.{Counts};
 
 // The places of the names in `names`: what a call reads, what its outputs hold before it, and what they are to hold after it.
-pub(crate) const RECORD: usize = 0;
+pub const RECORD: usize = 0;
 
-pub(crate) const OTHER: usize = 1;
+pub const OTHER: usize = 1;
 
-pub(crate) const ONE: usize = 2;
+pub const ONE: usize = 2;
 
-pub(crate) const TWO: usize = 3;
+pub const TWO: usize = 3;
 
-pub(crate) const THREE: usize = 4;
+pub const THREE: usize = 4;
 
-pub(crate) const OUT: usize = 5;
+pub const OUT: usize = 5;
 
-pub(crate) const OUT_TWO: usize = 6;
+pub const OUT_TWO: usize = 6;
 
-pub(crate) const OUT_THREE: usize = 7;
+pub const OUT_THREE: usize = 7;
 
-pub(crate) const WANT: usize = 8;
+pub const WANT: usize = 8;
 
-pub(crate) const WANT_TWO: usize = 9;
+pub const WANT_TWO: usize = 9;
 
-pub(crate) const WANT_THREE: usize = 10;
+pub const WANT_THREE: usize = 10;
 
 // The place of a name, 11 if it is none of them.
-pub(crate) fn holder(name: &[u8]) -> usize {
+pub fn holder(name: &[u8]) -> usize {
     crate::lines::place_of(
         b"record other one two three out out_two out_three want want_two want_three ",
         name,
@@ -36,21 +36,21 @@ pub(crate) fn holder(name: &[u8]) -> usize {
 }
 
 // Room for all of them.
-pub(crate) fn holder_buffer() -> [u8; 495616]
+pub fn holder_buffer() -> [u8; 495616]
     ensures { λ r. ⌜ 495616 ≡ length r ⌝ }
 {
     [0; 495616]
 }
 
 // Their lengths.
-pub(crate) fn holder_sizes() -> [usize; 11]
+pub fn holder_sizes() -> [usize; 11]
     ensures { λ r. ⌜ 11 ≡ length r ⌝ }
 {
     [0; 11]
 }
 
 // Sets the one at a place to the bytes that a text stands for.
-pub(crate) fn set(bytes: &mut [u8], sizes: &mut [usize], place: usize, s: &[u8]) {
+pub fn set(bytes: &mut [u8], sizes: &mut [usize], place: usize, s: &[u8]) {
     if bytes.len() != 495616 {
         return;
     }
@@ -65,8 +65,28 @@ pub(crate) fn set(bytes: &mut [u8], sizes: &mut [usize], place: usize, s: &[u8])
     sizes[place] = read_bytes(s, &mut bytes[start..end]);
 }
 
+// Sets the one at a place to the one at another.
+pub fn set_same(bytes: &mut [u8], sizes: &mut [usize], place: usize, from: usize) {
+    if bytes.len() != 495616 {
+        return;
+    }
+    if sizes.len() != 11 {
+        return;
+    }
+    if 10 < place {
+        return;
+    }
+    if 10 < from {
+        return;
+    }
+    for i in 0..45056 {
+        bytes[45056 * place + i] = bytes[45056 * from + i];
+    }
+    sizes[place] = sizes[from];
+}
+
 // The one at a place.
-pub(crate) fn held<'a>(bytes: &'a [u8], sizes: &[usize], place: usize) -> &'a [u8] {
+pub fn held<'a>(bytes: &'a [u8], sizes: &[usize], place: usize) -> &'a [u8] {
     if 10 < place {
         return text::part(bytes, 0, 0);
     }
@@ -77,7 +97,7 @@ pub(crate) fn held<'a>(bytes: &'a [u8], sizes: &[usize], place: usize) -> &'a [u
 }
 
 // Copies one to the front of an output, if it fits, and gives its length.
-pub(crate) fn load(out: &mut [u8], s: &[u8]) -> usize
+pub fn load(out: &mut [u8], s: &[u8]) -> usize
     ensures { λ r. ⌜ Counts r (now (out .exit)) ⌝ }
 {
     if out.len() < s.len() {

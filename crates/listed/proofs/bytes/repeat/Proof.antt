@@ -4,11 +4,11 @@ use borrow.Author.Needs.{needs}
 use Prim.Native.Nat.{_+_, _-_, _≤_}
 use lib.ListN.{length}
 use mathlib.Core.Path.{_≡_}
-use Rattle.replay.proofs.bytes.repeat.Statement.{statement}
-use Rattle.replay.proofs.bytes.repeat.Tie as tie
-use Rattle.replay.proofs.bytes.repeat.Reads as reads
-use Rattle.replay.proofs.bytes.repeat.Lts as lts
-use Rattle.replay.proofs.bytes.put.Reads as put-reads
+use Rattle.listed.proofs.bytes.repeat.Statement.{statement}
+use Rattle.listed.proofs.bytes.repeat.Tie as tie
+use Rattle.listed.proofs.bytes.repeat.Reads as reads
+use Rattle.listed.proofs.bytes.repeat.Lts as lts
+use Rattle.listed.proofs.bytes.put.Reads as put-reads
 
 abbrev Inv-loop : tie.InvT-loop
 Inv-loop out₀ at times x p₀ counter₀ out p counter = length out ≡ length out₀

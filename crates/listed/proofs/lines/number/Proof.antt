@@ -4,11 +4,11 @@ use borrow.Author.Needs.{needs}
 use Prim.Native.Nat.{_+_, _-_, _≤_}
 use lib.ListN.{length}
 use mathlib.Core.Path.{_≡_}
-use Rattle.replay.proofs.lines.number.Statement.{statement}
-use Rattle.replay.proofs.lines.number.Tie as tie
-use Rattle.replay.proofs.lines.number.Reads as reads
-use Rattle.replay.proofs.lines.number.Lts as lts
-use Rattle.replay.proofs.lines.with_digit.Reads as with-digit-reads
+use Rattle.listed.proofs.lines.number.Statement.{statement}
+use Rattle.listed.proofs.lines.number.Tie as tie
+use Rattle.listed.proofs.lines.number.Reads as reads
+use Rattle.listed.proofs.lines.number.Lts as lts
+use Rattle.listed.proofs.lines.with_digit.Reads as with-digit-reads
 use Rattle.text.proofs.same.Reads as same-reads
 
 abbrev Inv-loop : tie.InvT-loop

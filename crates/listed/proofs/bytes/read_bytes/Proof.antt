@@ -4,17 +4,17 @@ use borrow.Author.Needs.{needs}
 use Prim.Native.Nat.{_+_, _-_, _≤_}
 use lib.ListN.{length}
 use mathlib.Core.Path.{_≡_}
-use Rattle.replay.proofs.bytes.read_bytes.Statement.{statement}
-use Rattle.replay.proofs.bytes.read_bytes.Tie as tie
-use Rattle.replay.proofs.bytes.read_bytes.Reads as reads
-use Rattle.replay.proofs.bytes.read_bytes.Lts as lts
-use Rattle.replay.proofs.bytes.pair_at.Reads as pair-at-reads
-use Rattle.replay.proofs.bytes.put.Reads as put-reads
-use Rattle.replay.proofs.bytes.put_all.Reads as put-all-reads
-use Rattle.replay.proofs.bytes.repeat.Reads as repeat-reads
-use Rattle.replay.proofs.lines.number.Reads as number-reads
-use Rattle.replay.proofs.lines.past.Reads as past-reads
-use Rattle.replay.proofs.lines.upto.Reads as upto-reads
+use Rattle.listed.proofs.bytes.read_bytes.Statement.{statement}
+use Rattle.listed.proofs.bytes.read_bytes.Tie as tie
+use Rattle.listed.proofs.bytes.read_bytes.Reads as reads
+use Rattle.listed.proofs.bytes.read_bytes.Lts as lts
+use Rattle.listed.proofs.bytes.pair_at.Reads as pair-at-reads
+use Rattle.listed.proofs.bytes.put.Reads as put-reads
+use Rattle.listed.proofs.bytes.put_all.Reads as put-all-reads
+use Rattle.listed.proofs.bytes.repeat.Reads as repeat-reads
+use Rattle.listed.proofs.lines.number.Reads as number-reads
+use Rattle.listed.proofs.lines.past.Reads as past-reads
+use Rattle.listed.proofs.lines.upto.Reads as upto-reads
 
 abbrev Inv-loop : tie.InvT-loop
 Inv-loop s out₀ i₀ at₀ out i at = length out ≡ length out₀
@@ -73,9 +73,6 @@ loop-less-2 c = search needs
 loop-again-2 : tie.Need-loop-again-2 Inv-loop μ-loop
 loop-again-2 c = search needs
 
-pair-at-requires : tie.Need-pair-at-requires Inv-loop μ-loop
-pair-at-requires c κs = search needs
-
 put-requires : tie.Need-put-requires Inv-loop μ-loop
 put-requires c κs = search needs
 
@@ -87,6 +84,33 @@ loop-less-3 c = search needs
 
 loop-again-3 : tie.Need-loop-again-3 Inv-loop μ-loop
 loop-again-3 c = search needs
+
+put-requires-2 : tie.Need-put-requires-2 Inv-loop μ-loop
+put-requires-2 c κs = search needs
+
+add-i-2 : tie.Need-add-i-2 Inv-loop μ-loop
+add-i-2 c = search needs
+
+loop-less-4 : tie.Need-loop-less-4 Inv-loop μ-loop
+loop-less-4 c = search needs
+
+loop-again-4 : tie.Need-loop-again-4 Inv-loop μ-loop
+loop-again-4 c = search needs
+
+pair-at-requires : tie.Need-pair-at-requires Inv-loop μ-loop
+pair-at-requires c κs = search needs
+
+put-requires-3 : tie.Need-put-requires-3 Inv-loop μ-loop
+put-requires-3 c κs = search needs
+
+add-i-3 : tie.Need-add-i-3 Inv-loop μ-loop
+add-i-3 c = search needs
+
+loop-less-5 : tie.Need-loop-less-5 Inv-loop μ-loop
+loop-less-5 c = search needs
+
+loop-again-5 : tie.Need-loop-again-5 Inv-loop μ-loop
+loop-again-5 c = search needs
 
 same-length : tie.Need-same-length Inv-loop μ-loop
 same-length c = search needs
@@ -117,10 +141,18 @@ read-bytes-spec =
     past-requires-2
     loop-less-2
     loop-again-2
-    pair-at-requires
     put-requires
     add-i
     loop-less-3
     loop-again-3
+    put-requires-2
+    add-i-2
+    loop-less-4
+    loop-again-4
+    pair-at-requires
+    put-requires-3
+    add-i-3
+    loop-less-5
+    loop-again-5
     same-length
     returns)

@@ -1,9 +1,9 @@
 // The entries that look at records. Each call is compared with the numbers of its line: the result, and the numbers that come out, in the
 // order of the function's parameters; a place that goes in comes last.
-use crate::holders::OTHER;
-use crate::holders::RECORD;
-use crate::holders::held;
-use crate::lines::UNWRITTEN;
+use listed::OTHER;
+use listed::RECORD;
+use listed::UNWRITTEN;
+use listed::held;
 
 // Whether `graph_name_counts` answers so.
 pub(crate) fn counts(bytes: &[u8], sizes: &[usize], n: [u64; 12]) -> bool {

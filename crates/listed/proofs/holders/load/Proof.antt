@@ -6,8 +6,8 @@ use lib.Seq.{length-take-le}
 use mathlib.Core.Path.{sym}
 use borrow.Author.Needs.{needs}
 use Rattle.io.specs.Counts.{Counts}
-use Rattle.replay.proofs.holders.load.Statement.{statement}
-use Rattle.replay.proofs.holders.load.Tie as tie
+use Rattle.listed.proofs.holders.load.Statement.{statement}
+use Rattle.listed.proofs.holders.load.Tie as tie
 
 returns : tie.Need-returns
 returns c = search needs

@@ -4,12 +4,12 @@ use borrow.Author.Needs.{needs}
 use Prim.Native.Nat.{_+_, _-_, _≤_}
 use lib.ListN.{length}
 use mathlib.Core.Path.{_≡_}
-use Rattle.replay.proofs.lines.place_of.Statement.{statement}
-use Rattle.replay.proofs.lines.place_of.Tie as tie
-use Rattle.replay.proofs.lines.place_of.Reads as reads
-use Rattle.replay.proofs.lines.place_of.Lts as lts
-use Rattle.replay.proofs.lines.past.Reads as past-reads
-use Rattle.replay.proofs.lines.upto.Reads as upto-reads
+use Rattle.listed.proofs.lines.place_of.Statement.{statement}
+use Rattle.listed.proofs.lines.place_of.Tie as tie
+use Rattle.listed.proofs.lines.place_of.Reads as reads
+use Rattle.listed.proofs.lines.place_of.Lts as lts
+use Rattle.listed.proofs.lines.past.Reads as past-reads
+use Rattle.listed.proofs.lines.upto.Reads as upto-reads
 use Rattle.text.proofs.same.Reads as same-reads
 
 abbrev Inv-loop : tie.InvT-loop

@@ -1,4 +1,5 @@
-// Bytes as the list writes them: two hexadecimal digits for one, printable ones between quotes, and `*N.` for the byte before it N times.
+// Bytes as the list writes them: two hexadecimal digits for one, printable ones between quotes, `t` for a tab and `n` for the end of a
+// line, and `*N.` for the byte before it N times in all.
 use crate::lines::number;
 use crate::lines::past;
 use crate::lines::upto;
@@ -58,7 +59,7 @@ fn pair_at(s: &[u8], at: usize) -> u8 {
 }
 
 // Writes the bytes that s stands for to the front of the output, and gives their number.
-pub(crate) fn read_bytes(s: &[u8], out: &mut [u8]) -> usize {
+pub fn read_bytes(s: &[u8], out: &mut [u8]) -> usize {
     let mut i = 0;
     let mut at = 0;
     while i < s.len() {
@@ -70,6 +71,14 @@ pub(crate) fn read_bytes(s: &[u8], out: &mut [u8]) -> usize {
             b'*' => {
                 at = repeat(out, at, number(upto(s, i + 1, b'.')) as usize);
                 i = past(s, i + 1, b'.');
+            }
+            b't' => {
+                at = put(out, at, b'\t');
+                i += 1;
+            }
+            b'n' => {
+                at = put(out, at, b'\n');
+                i += 1;
             }
             _ => {
                 at = put(out, at, pair_at(s, i));

@@ -4,13 +4,13 @@ use borrow.Author.Needs.{needs}
 use Prim.Native.Nat.{_+_, _-_, _≤_}
 use lib.ListN.{length}
 use mathlib.Core.Path.{_≡_}
-use Rattle.replay.proofs.lines.numbers.Statement.{statement}
-use Rattle.replay.proofs.lines.numbers.Tie as tie
-use Rattle.replay.proofs.lines.numbers.Reads as reads
-use Rattle.replay.proofs.lines.numbers.Lts as lts
-use Rattle.replay.proofs.lines.number.Reads as number-reads
-use Rattle.replay.proofs.lines.past.Reads as past-reads
-use Rattle.replay.proofs.lines.upto.Reads as upto-reads
+use Rattle.listed.proofs.lines.numbers.Statement.{statement}
+use Rattle.listed.proofs.lines.numbers.Tie as tie
+use Rattle.listed.proofs.lines.numbers.Reads as reads
+use Rattle.listed.proofs.lines.numbers.Lts as lts
+use Rattle.listed.proofs.lines.number.Reads as number-reads
+use Rattle.listed.proofs.lines.past.Reads as past-reads
+use Rattle.listed.proofs.lines.upto.Reads as upto-reads
 
 abbrev Inv-loop : tie.InvT-loop
 Inv-loop line n₀ at₀ i₀ n at i = length n ≡ 12

@@ -4,11 +4,11 @@ use borrow.Author.Needs.{needs}
 use Prim.Native.Nat.{_+_, _-_, _≤_}
 use lib.ListN.{length}
 use mathlib.Core.Path.{_≡_}
-use Rattle.replay.proofs.bytes.put_all.Statement.{statement}
-use Rattle.replay.proofs.bytes.put_all.Tie as tie
-use Rattle.replay.proofs.bytes.put_all.Reads as reads
-use Rattle.replay.proofs.bytes.put_all.Lts as lts
-use Rattle.replay.proofs.bytes.put.Reads as put-reads
+use Rattle.listed.proofs.bytes.put_all.Statement.{statement}
+use Rattle.listed.proofs.bytes.put_all.Tie as tie
+use Rattle.listed.proofs.bytes.put_all.Reads as reads
+use Rattle.listed.proofs.bytes.put_all.Lts as lts
+use Rattle.listed.proofs.bytes.put.Reads as put-reads
 
 abbrev Inv-loop : tie.InvT-loop
 Inv-loop out₀ at s p₀ i₀ i-end out p i = length out ≡ length out₀

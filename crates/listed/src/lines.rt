@@ -4,16 +4,16 @@ ghost use Prim.Native.Nat.{_≤_, _<_};
 ghost use lib.ListN.{length};
 
 // What an output number holds before a call. The list has `-` for it.
-pub(crate) const UNWRITTEN: u64 = 6510615555426900570;
+pub const UNWRITTEN: u64 = 6510615555426900570;
 
 // The part of s from a place on, up to the next x or the end.
-pub(crate) fn upto(s: &[u8], from: usize, x: u8) -> &[u8] {
+pub fn upto(s: &[u8], from: usize, x: u8) -> &[u8] {
     let end = text::find_byte(s, from, x);
     text::part(s, from, end - from)
 }
 
 // The place behind the next x from a place on, or the end.
-pub(crate) fn past(s: &[u8], from: usize, x: u8) -> usize
+pub fn past(s: &[u8], from: usize, x: u8) -> usize
     ensures { λ r. ⌜ (from ≤ r) × (from < length (now (s .entry)) → from < r) ⌝ }
 {
     let end = text::find_byte(s, from, x);
@@ -24,7 +24,7 @@ pub(crate) fn past(s: &[u8], from: usize, x: u8) -> usize
 }
 
 // The place of a word in a list of words with a space after each; their number, if it is not there.
-pub(crate) fn place_of(words: &[u8], word: &[u8]) -> usize {
+pub fn place_of(words: &[u8], word: &[u8]) -> usize {
     let mut at = 0;
     let mut place = 0;
     while at < words.len() {
@@ -59,7 +59,7 @@ fn with_digit(n: u64, x: u8) -> u64 {
 }
 
 // The number that a word is in decimal.
-pub(crate) fn number(word: &[u8]) -> u64 {
+pub fn number(word: &[u8]) -> u64 {
     if text::same(word, b"-") {
         return UNWRITTEN;
     }
@@ -71,7 +71,7 @@ pub(crate) fn number(word: &[u8]) -> u64 {
 }
 
 // The first 12 numbers of a line, with a space after each; 0 for those that are not there.
-pub(crate) fn numbers(line: &[u8]) -> [u64; 12] {
+pub fn numbers(line: &[u8]) -> [u64; 12] {
     let mut n = [0; 12];
     let mut at = 0;
     for i in 0..12 {

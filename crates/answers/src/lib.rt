@@ -1,0 +1,10 @@
+// The exported functions called on the byte strings that the list sets, and what comes out compared with the numbers of a line and with
+// the byte strings that the outputs are to be.
+mod edits;
+mod entries;
+mod questions;
+mod records;
+mod texts;
+
+pub use entries::STRICT;
+pub use entries::agrees;
