@@ -286,7 +286,7 @@ same-length-16 : tie.Need-same-length-16
 same-length-16 c = let n = other-read (c .before .before .before .before .before .before .before .before .before .before .before .before .before .before .before .before .before .before .before .before .before .before .before .before .before .before .before .before .before .before .before .before .before .before .before .before .before .before .before .before .before .before .before .before .before) in front-back (c .before .before .before .before .before .before .before .before .before .before .before .before .before .before .before .before .before .before .before .before .before .before .before .before .before .before .ask-numbered .last .1 .1 .1 .1 .1 .1 .1 .1 .1 .1 .1 .1 .1 .1 .1 .1 .1 .1 .1 .1 .0) _ _ (in-places n) (c .before .before .before .before .before .before .before .before .before .before .before .before .before .before .before .before .before .before .before .before .before .before .before .before .before .before .ask-numbered .kept .1 .1 .1 .1 .1 .1 .1 .1 .1 .1 .1 .1 .1 .1 .1 .1 .1 .1 .1 .1 .0)
 
 same-length-17 : tie.Need-same-length-17
-same-length-17 c = search needs
+same-length-17 c = c .before .before .before .before .before .before .before .before .before .before .before .before .before .before .before .before .before .before .before .before .before .before .before .before .before .before .ask-numbered .kept .1 .1 .1 .1 .1 .1 .1 .1 .1 .1 .1 .1 .1 .1 .1 .1 .1 .1 .1 .1 .1 .0
 
 returns : tie.Need-returns
 returns c =
@@ -295,7 +295,7 @@ returns c =
     let p = q .before .before in
     let n = other-read q in
     replies-read _ _ (first n .pre .0) _ _ (counting n .before .read16 .ensures .0) (counting n .read162 .ensures .0) _ _ _ _ (room n) (seconds-size n) (ones-size n) (twos-size n) _ (n .number-names .ensures)
-    _ _ (p .read163 .ensures .0) (q .read164 .ensures .0) (first n .args .full) (now (first n .args .out)) _ _ (a .ask-numbered .ensures)
+    _ _ (p .read163 .ensures .0) (q .read164 .ensures .0) (first n .args .full) (now (first n .args .out)) (a .ask-numbered .last .1 .1 .1 .1 .1 .1 .1 .1 .1 .1 .1 .1 .1 .1 .1 .1 .1 .1 .1 .1 .1 .0) _ (a .ask-numbered .ensures)
 
 pub ask-named-spec : {M : Type 1} → statement M
 ask-named-spec =
