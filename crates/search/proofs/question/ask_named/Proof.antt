@@ -237,65 +237,72 @@ ask-numbered-requires c κs =
       ),
     )
 
+-- at the end: where the question was asked, and where the names were numbered
+abbrev asked : tie.After-slice-known36 → tie.After-ask-numbered
+asked c = c .before .before .before .before .before .before .before .before .before .before .before .before .before .before .before .before .before .before .before .before .before .before .before .before .before .before
+
+abbrev numbered : tie.After-slice-known36 → tie.After-number-names
+numbered c = other-read (asked c .before .before .before .before .before .before .before .before .before .before .before .before .before .before .before .before .before .before .before)
+
 same-length : tie.Need-same-length
-same-length c = let n = other-read (c .before .before .before .before .before .before .before .before .before .before .before .before .before .before .before .before .before .before .before .before .before .before .before .before .before .before .before .before .before .before .before .before .before .before .before .before .before .before .before .before .before .before .before .before .before) in n .number-names .kept .1 .1 .1 .1 .0
+same-length c = numbered c .number-names .kept .1 .1 .1 .1 .0
 
 same-length-2 : tie.Need-same-length-2
-same-length-2 c = let n = other-read (c .before .before .before .before .before .before .before .before .before .before .before .before .before .before .before .before .before .before .before .before .before .before .before .before .before .before .before .before .before .before .before .before .before .before .before .before .before .before .before .before .before .before .before .before .before) in n .number-names .kept .1 .1 .1 .1 .1 .0
+same-length-2 c = numbered c .number-names .kept .1 .1 .1 .1 .1 .0
 
 same-length-3 : tie.Need-same-length-3
-same-length-3 c = let n = other-read (c .before .before .before .before .before .before .before .before .before .before .before .before .before .before .before .before .before .before .before .before .before .before .before .before .before .before .before .before .before .before .before .before .before .before .before .before .before .before .before .before .before .before .before .before .before) in n .number-names .kept .1 .1 .1 .1 .1 .1 .0
+same-length-3 c = numbered c .number-names .kept .1 .1 .1 .1 .1 .1 .0
 
 same-length-4 : tie.Need-same-length-4
-same-length-4 c = let n = other-read (c .before .before .before .before .before .before .before .before .before .before .before .before .before .before .before .before .before .before .before .before .before .before .before .before .before .before .before .before .before .before .before .before .before .before .before .before .before .before .before .before .before .before .before .before .before) in n .number-names .kept .1 .1 .1 .1 .1 .1 .1 .0
+same-length-4 c = numbered c .number-names .kept .1 .1 .1 .1 .1 .1 .1 .0
 
 same-length-5 : tie.Need-same-length-5
-same-length-5 c = c .before .before .before .before .before .before .before .before .before .before .before .before .before .before .before .before .before .before .before .before .before .before .before .before .before .before .ask-numbered .kept .1 .1 .1 .1 .1 .1 .1 .1 .1 .0
+same-length-5 c = asked c .ask-numbered .kept .1 .1 .1 .1 .1 .1 .1 .1 .1 .0
 
 same-length-6 : tie.Need-same-length-6
-same-length-6 c = c .before .before .before .before .before .before .before .before .before .before .before .before .before .before .before .before .before .before .before .before .before .before .before .before .before .before .ask-numbered .kept .1 .1 .1 .1 .1 .1 .1 .1 .1 .1 .0
+same-length-6 c = asked c .ask-numbered .kept .1 .1 .1 .1 .1 .1 .1 .1 .1 .1 .0
 
 same-length-7 : tie.Need-same-length-7
-same-length-7 c = let n = other-read (c .before .before .before .before .before .before .before .before .before .before .before .before .before .before .before .before .before .before .before .before .before .before .before .before .before .before .before .before .before .before .before .before .before .before .before .before .before .before .before .before .before .before .before .before .before) in front-back (c .before .before .before .before .before .before .before .before .before .before .before .before .before .before .before .before .before .before .before .before .before .before .before .before .before .before .ask-numbered .last .1 .1 .1 .1 .1 .1 .1 .1 .1 .1 .1 .0) _ _ (in-starts n) (c .before .before .before .before .before .before .before .before .before .before .before .before .before .before .before .before .before .before .before .before .before .before .before .before .before .before .ask-numbered .kept .1 .1 .1 .1 .1 .1 .1 .1 .1 .1 .1 .0)
+same-length-7 c = let n = numbered c in front-back (asked c .ask-numbered .last .1 .1 .1 .1 .1 .1 .1 .1 .1 .1 .1 .0) (now (first n .args .starts)) (n .number-names .result) (in-starts n) (asked c .ask-numbered .kept .1 .1 .1 .1 .1 .1 .1 .1 .1 .1 .1 .0)
 
 same-length-8 : tie.Need-same-length-8
-same-length-8 c = let n = other-read (c .before .before .before .before .before .before .before .before .before .before .before .before .before .before .before .before .before .before .before .before .before .before .before .before .before .before .before .before .before .before .before .before .before .before .before .before .before .before .before .before .before .before .before .before .before) in front-back (c .before .before .before .before .before .before .before .before .before .before .before .before .before .before .before .before .before .before .before .before .before .before .before .before .before .before .ask-numbered .last .1 .1 .1 .1 .1 .1 .1 .1 .1 .1 .1 .1 .0) _ _ (in-ends n) (c .before .before .before .before .before .before .before .before .before .before .before .before .before .before .before .before .before .before .before .before .before .before .before .before .before .before .ask-numbered .kept .1 .1 .1 .1 .1 .1 .1 .1 .1 .1 .1 .1 .0)
+same-length-8 c = let n = numbered c in front-back (asked c .ask-numbered .last .1 .1 .1 .1 .1 .1 .1 .1 .1 .1 .1 .1 .0) (now (first n .args .ends)) (n .number-names .result) (in-ends n) (asked c .ask-numbered .kept .1 .1 .1 .1 .1 .1 .1 .1 .1 .1 .1 .1 .0)
 
 same-length-9 : tie.Need-same-length-9
-same-length-9 c = c .before .before .before .before .before .before .before .before .before .before .before .before .before .before .before .before .before .before .before .before .before .before .before .before .before .before .ask-numbered .kept .1 .1 .1 .1 .1 .1 .1 .1 .1 .1 .1 .1 .1 .0
+same-length-9 c = asked c .ask-numbered .kept .1 .1 .1 .1 .1 .1 .1 .1 .1 .1 .1 .1 .1 .0
 
 same-length-10 : tie.Need-same-length-10
-same-length-10 c = let n = other-read (c .before .before .before .before .before .before .before .before .before .before .before .before .before .before .before .before .before .before .before .before .before .before .before .before .before .before .before .before .before .before .before .before .before .before .before .before .before .before .before .before .before .before .before .before .before) in front-back (c .before .before .before .before .before .before .before .before .before .before .before .before .before .before .before .before .before .before .before .before .before .before .before .before .before .before .ask-numbered .last .1 .1 .1 .1 .1 .1 .1 .1 .1 .1 .1 .1 .1 .1 .0) _ _ (in-starts2 n) (c .before .before .before .before .before .before .before .before .before .before .before .before .before .before .before .before .before .before .before .before .before .before .before .before .before .before .ask-numbered .kept .1 .1 .1 .1 .1 .1 .1 .1 .1 .1 .1 .1 .1 .1 .0)
+same-length-10 c = let n = numbered c in front-back (asked c .ask-numbered .last .1 .1 .1 .1 .1 .1 .1 .1 .1 .1 .1 .1 .1 .1 .0) (now (first n .args .starts2)) (n .number-names .result) (in-starts2 n) (asked c .ask-numbered .kept .1 .1 .1 .1 .1 .1 .1 .1 .1 .1 .1 .1 .1 .1 .0)
 
 same-length-11 : tie.Need-same-length-11
-same-length-11 c = let n = other-read (c .before .before .before .before .before .before .before .before .before .before .before .before .before .before .before .before .before .before .before .before .before .before .before .before .before .before .before .before .before .before .before .before .before .before .before .before .before .before .before .before .before .before .before .before .before) in front-back (c .before .before .before .before .before .before .before .before .before .before .before .before .before .before .before .before .before .before .before .before .before .before .before .before .before .before .ask-numbered .last .1 .1 .1 .1 .1 .1 .1 .1 .1 .1 .1 .1 .1 .1 .1 .0) _ _ (in-ends2 n) (c .before .before .before .before .before .before .before .before .before .before .before .before .before .before .before .before .before .before .before .before .before .before .before .before .before .before .ask-numbered .kept .1 .1 .1 .1 .1 .1 .1 .1 .1 .1 .1 .1 .1 .1 .1 .0)
+same-length-11 c = let n = numbered c in front-back (asked c .ask-numbered .last .1 .1 .1 .1 .1 .1 .1 .1 .1 .1 .1 .1 .1 .1 .1 .0) (now (first n .args .ends2)) (n .number-names .result) (in-ends2 n) (asked c .ask-numbered .kept .1 .1 .1 .1 .1 .1 .1 .1 .1 .1 .1 .1 .1 .1 .1 .0)
 
 same-length-12 : tie.Need-same-length-12
-same-length-12 c = c .before .before .before .before .before .before .before .before .before .before .before .before .before .before .before .before .before .before .before .before .before .before .before .before .before .before .ask-numbered .kept .1 .1 .1 .1 .1 .1 .1 .1 .1 .1 .1 .1 .1 .1 .1 .1 .0
+same-length-12 c = asked c .ask-numbered .kept .1 .1 .1 .1 .1 .1 .1 .1 .1 .1 .1 .1 .1 .1 .1 .1 .0
 
 same-length-13 : tie.Need-same-length-13
-same-length-13 c = let n = other-read (c .before .before .before .before .before .before .before .before .before .before .before .before .before .before .before .before .before .before .before .before .before .before .before .before .before .before .before .before .before .before .before .before .before .before .before .before .before .before .before .before .before .before .before .before .before) in front-back (c .before .before .before .before .before .before .before .before .before .before .before .before .before .before .before .before .before .before .before .before .before .before .before .before .before .before .ask-numbered .last .1 .1 .1 .1 .1 .1 .1 .1 .1 .1 .1 .1 .1 .1 .1 .1 .1 .0) _ _ (in-nodes n) (c .before .before .before .before .before .before .before .before .before .before .before .before .before .before .before .before .before .before .before .before .before .before .before .before .before .before .ask-numbered .kept .1 .1 .1 .1 .1 .1 .1 .1 .1 .1 .1 .1 .1 .1 .1 .1 .1 .0)
+same-length-13 c = let n = numbered c in front-back (asked c .ask-numbered .last .1 .1 .1 .1 .1 .1 .1 .1 .1 .1 .1 .1 .1 .1 .1 .1 .1 .0) (now (first n .args .nodes)) (n .number-names .result) (in-nodes n) (asked c .ask-numbered .kept .1 .1 .1 .1 .1 .1 .1 .1 .1 .1 .1 .1 .1 .1 .1 .1 .1 .0)
 
 same-length-14 : tie.Need-same-length-14
-same-length-14 c = let n = other-read (c .before .before .before .before .before .before .before .before .before .before .before .before .before .before .before .before .before .before .before .before .before .before .before .before .before .before .before .before .before .before .before .before .before .before .before .before .before .before .before .before .before .before .before .before .before) in front-back (c .before .before .before .before .before .before .before .before .before .before .before .before .before .before .before .before .before .before .before .before .before .before .before .before .before .before .ask-numbered .last .1 .1 .1 .1 .1 .1 .1 .1 .1 .1 .1 .1 .1 .1 .1 .1 .1 .1 .0) _ _ (in-parents n) (c .before .before .before .before .before .before .before .before .before .before .before .before .before .before .before .before .before .before .before .before .before .before .before .before .before .before .ask-numbered .kept .1 .1 .1 .1 .1 .1 .1 .1 .1 .1 .1 .1 .1 .1 .1 .1 .1 .1 .0)
+same-length-14 c = let n = numbered c in front-back (asked c .ask-numbered .last .1 .1 .1 .1 .1 .1 .1 .1 .1 .1 .1 .1 .1 .1 .1 .1 .1 .1 .0) (now (first n .args .parents)) (n .number-names .result) (in-parents n) (asked c .ask-numbered .kept .1 .1 .1 .1 .1 .1 .1 .1 .1 .1 .1 .1 .1 .1 .1 .1 .1 .1 .0)
 
 same-length-15 : tie.Need-same-length-15
-same-length-15 c = let n = other-read (c .before .before .before .before .before .before .before .before .before .before .before .before .before .before .before .before .before .before .before .before .before .before .before .before .before .before .before .before .before .before .before .before .before .before .before .before .before .before .before .before .before .before .before .before .before) in front-back (c .before .before .before .before .before .before .before .before .before .before .before .before .before .before .before .before .before .before .before .before .before .before .before .before .before .before .ask-numbered .last .1 .1 .1 .1 .1 .1 .1 .1 .1 .1 .1 .1 .1 .1 .1 .1 .1 .1 .1 .0) _ _ (in-kinds n) (c .before .before .before .before .before .before .before .before .before .before .before .before .before .before .before .before .before .before .before .before .before .before .before .before .before .before .ask-numbered .kept .1 .1 .1 .1 .1 .1 .1 .1 .1 .1 .1 .1 .1 .1 .1 .1 .1 .1 .1 .0)
+same-length-15 c = let n = numbered c in front-back (asked c .ask-numbered .last .1 .1 .1 .1 .1 .1 .1 .1 .1 .1 .1 .1 .1 .1 .1 .1 .1 .1 .1 .0) (now (first n .args .kinds)) (n .number-names .result) (in-kinds n) (asked c .ask-numbered .kept .1 .1 .1 .1 .1 .1 .1 .1 .1 .1 .1 .1 .1 .1 .1 .1 .1 .1 .1 .0)
 
 same-length-16 : tie.Need-same-length-16
-same-length-16 c = let n = other-read (c .before .before .before .before .before .before .before .before .before .before .before .before .before .before .before .before .before .before .before .before .before .before .before .before .before .before .before .before .before .before .before .before .before .before .before .before .before .before .before .before .before .before .before .before .before) in front-back (c .before .before .before .before .before .before .before .before .before .before .before .before .before .before .before .before .before .before .before .before .before .before .before .before .before .before .ask-numbered .last .1 .1 .1 .1 .1 .1 .1 .1 .1 .1 .1 .1 .1 .1 .1 .1 .1 .1 .1 .1 .0) _ _ (in-places n) (c .before .before .before .before .before .before .before .before .before .before .before .before .before .before .before .before .before .before .before .before .before .before .before .before .before .before .ask-numbered .kept .1 .1 .1 .1 .1 .1 .1 .1 .1 .1 .1 .1 .1 .1 .1 .1 .1 .1 .1 .1 .0)
+same-length-16 c = let n = numbered c in front-back (asked c .ask-numbered .last .1 .1 .1 .1 .1 .1 .1 .1 .1 .1 .1 .1 .1 .1 .1 .1 .1 .1 .1 .1 .0) (now (first n .args .places)) (n .number-names .result) (in-places n) (asked c .ask-numbered .kept .1 .1 .1 .1 .1 .1 .1 .1 .1 .1 .1 .1 .1 .1 .1 .1 .1 .1 .1 .1 .0)
 
 same-length-17 : tie.Need-same-length-17
-same-length-17 c = search needs
+same-length-17 c = asked c .ask-numbered .kept .1 .1 .1 .1 .1 .1 .1 .1 .1 .1 .1 .1 .1 .1 .1 .1 .1 .1 .1 .1 .1 .0
 
 returns : tie.Need-returns
 returns c =
-    let a = c .before .before .before .before .before .before .before .before .before .before .before .before .before .before .before .before .before .before .before .before .before .before .before .before .before .before in
+    let a = asked c in
     let q = a .before .before .before .before .before .before .before .before .before .before .before .before .before .before .before .before .before .before .before in
     let p = q .before .before in
     let n = other-read q in
     replies-read _ _ (first n .pre .0) _ _ (counting n .before .read16 .ensures .0) (counting n .read162 .ensures .0) _ _ _ _ (room n) (seconds-size n) (ones-size n) (twos-size n) _ (n .number-names .ensures)
-    _ _ (p .read163 .ensures .0) (q .read164 .ensures .0) (first n .args .full) (now (first n .args .out)) _ _ (a .ask-numbered .ensures)
+    _ _ (p .read163 .ensures .0) (q .read164 .ensures .0) (first n .args .full) (now (first n .args .out)) (a .ask-numbered .last .1 .1 .1 .1 .1 .1 .1 .1 .1 .1 .1 .1 .1 .1 .1 .1 .1 .1 .1 .1 .1 .0) _ (a .ask-numbered .ensures)
 
 pub ask-named-spec : {M : Type 1} → statement M
 ask-named-spec =

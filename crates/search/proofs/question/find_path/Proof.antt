@@ -1,7 +1,8 @@
 -- The search tells of a path or that there is none.
 use native.Mathlib.Omega.{arith}
 use mathlib.Core.Path.{_≡_, refl}
-use Prim.Native.Nat.{_<_}
+use mathlib.Core.List.{List}
+use Prim.Native.Nat.{ℕ, _<_}
 use lib.ListN.{length}
 use denote.Ref.{now}
 use Rattle.search.proofs.Replying.{searchable, reply-no, found-back, reply-yes, reply-short}
@@ -19,10 +20,20 @@ first c = start (c .before)
 abbrev found-at : tie.After-known-told → tie.After-search
 found-at c = c .before .before .before .before .before .before .before .before .before .before .before
 
+-- the tables of the search after it
+abbrev nodes : tie.After-search → List ℕ
+nodes c = c .search .last .1 .1 .1 .1 .1 .1 .1 .1 .0
+
+abbrev parents : tie.After-search → List ℕ
+parents c = c .search .last .1 .1 .1 .1 .1 .1 .1 .1 .1 .0
+
+abbrev kinds : tie.After-search → List ℕ
+kinds c = c .search .last .1 .1 .1 .1 .1 .1 .1 .1 .1 .1 .0
+
 size : (c : tie.After-search) → length (now (first c .args .places)) ≡ length (now (first c .args .firsts))
 size c = first c .pre .1 .1
 
-nodes-few : (c : tie.After-search) → length (c .search .last .1 .1 .1 .1 .1 .1 .1 .1 .0) < 65536
+nodes-few : (c : tie.After-search) → length (nodes c) < 65536
 nodes-few c = omega (arith, c .search .kept .1 .1 .1 .1 .1 .1 .1 .1 .0, first c .pre .1 .0)
 
 search-requires : tie.Need-search-requires
@@ -38,7 +49,7 @@ put-path-requires : tie.Need-put-path-requires
 put-path-requires c κs =
     let k = c .before .before .before .before in
     let s = found-at k in
-    found-back _ _ _ _ _ (first s .pre .0) _ (size s) _ _ _ _ _ _ _ _ (s .search .ensures) (k .before .j .given .1) refl refl refl (nodes-few s)
+    found-back _ _ _ _ _ (first s .pre .0) _ (size s) (nodes s) (parents s) (kinds s) (nodes s) (parents s) (kinds s) _ _ (s .search .ensures) (k .before .j .given .1) refl refl refl (nodes-few s)
 
 same-length : tie.Need-same-length
 same-length c = search needs
@@ -60,7 +71,7 @@ returns c =
     let p = c .before .before .before in
     let k = p .before .before .before .before .before in
     let s = found-at k in
-    reply-yes _ _ _ _ _ (first s .pre .0) _ (size s) _ _ _ _ _ _ _ _ (s .search .ensures) (k .before .j .given .1) refl refl refl (now (first s .args .out)) _ _ (p .put-path .ensures) (c .if1 .taken)
+    reply-yes _ _ _ _ _ (first s .pre .0) _ (size s) (nodes s) (parents s) (kinds s) (nodes s) (parents s) (kinds s) _ _ (s .search .ensures) (k .before .j .given .1) refl refl refl (now (first s .args .out)) _ _ (p .put-path .ensures) (c .if1 .taken)
 
 same-length-6 : tie.Need-same-length-6
 same-length-6 c = search needs
@@ -99,7 +110,7 @@ returns-3 c =
     let p = c .before .before .before in
     let k = p .before .before .before .before .before in
     let s = found-at k in
-    reply-short _ _ _ _ _ (first s .pre .0) _ (size s) _ _ _ _ _ _ _ _ (s .search .ensures) (k .before .j .given .1) refl refl refl (now (first s .args .out)) _ _ (p .put-path .ensures) (c .if1 .left)
+    reply-short _ _ _ _ _ (first s .pre .0) _ (size s) (nodes s) (parents s) (kinds s) (nodes s) (parents s) (kinds s) _ _ (s .search .ensures) (k .before .j .given .1) refl refl refl (now (first s .args .out)) _ _ (p .put-path .ensures) (c .if1 .left)
 
 pub find-path-spec : {M : Type 1} → statement M
 find-path-spec =
