@@ -12,7 +12,7 @@ abbrev Inv-loop : tie.InvT-loop
 Inv-loop bytes₀ sizes place from i₀ bytes i = length bytes ≡ length bytes₀
 
 abbrev μ-loop : tie.MeasureT-loop
-μ-loop bytes₀ sizes place from i₀ bytes i = 45056 - i
+μ-loop bytes₀ sizes place from i₀ bytes i = 47616 - i
 
 returns : tie.Need-returns Inv-loop μ-loop
 returns c = search needs
