@@ -37,7 +37,7 @@ const OUT_AT: usize = 5;
 const WANT_AT: usize = 8;
 
 /// How many bytes a byte string of the program `replay` can have.
-const ROOM: usize = 45056;
+const ROOM: usize = 47616;
 
 /// A case of at most so many characters is small.
 const SMALL: usize = 700;
@@ -45,8 +45,8 @@ const SMALL: usize = 700;
 /// How many small cases are kept of one sort.
 const SMALL_KEPT: usize = 4;
 
-/// How long the file may become.
-const LONGEST_LIST: usize = 300_000;
+/// How long the file may become, if each byte string is written once.
+const LONGEST_LIST: usize = 205_000;
 
 /// What a call is to give beside its result: the numbers that come out, and the outputs after it.
 pub trait Listed {
@@ -216,6 +216,11 @@ impl Case {
         record.map_or(0, |bytes| limits_of(bytes))
     }
 
+    /// The byte string that takes most room in the file.
+    fn largest(&self) -> Option<&Vec<u8>> {
+        self.setting.values().max_by_key(|bytes| written(bytes).len())
+    }
+
     /// The line of the call.
     fn line(&self) -> String {
         let shown = |number: &u64| if *number == UNWRITTEN { "-".to_string() } else { number.to_string() };
@@ -282,13 +287,16 @@ impl Sample {
         let mut refused = BTreeSet::new();
         let is_first: Vec<bool> = list.iter().map(|case| by_size(case) && refused.insert((case.entry, case.numbers[0]))).collect();
         let (first, rest): (Vec<_>, Vec<_>) = list.into_iter().zip(is_first).partition(|(_, is_first)| *is_first);
-        let mut cost = 0;
-        let within = |case: &&Case| {
-            cost += case.cost;
-            cost < room
-        };
-        let mut kept: Vec<&Case> = first.into_iter().chain(rest).map(|(case, _)| case).take_while(within).collect();
-        kept.sort_by_key(|case| (case.setting.get(&OUT_AT), &case.setting));
+        let (mut cost, mut seen, mut kept) = (0, BTreeSet::new(), Vec::new());
+        let reaching = rest.into_iter().filter(|(case, _)| case.numbers[0] == 0);
+        for (case, _) in first.into_iter().chain(reaching) {
+            let new = case.setting.iter().filter(|(_, bytes)| seen.insert(bytes.as_slice()));
+            cost += new.map(|(&place, _)| shown(&case.setting, place).len()).sum::<usize>();
+            if cost < room {
+                kept.push(case);
+            }
+        }
+        kept.sort_by_cached_key(|case| (case.largest(), &case.setting));
         kept
     }
 

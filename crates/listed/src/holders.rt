@@ -1,4 +1,4 @@
-// The byte strings that the list sets by name and that the calls take: each has 45,056 bytes of one buffer, and its length stands apart.
+// The byte strings that the list sets by name and that the calls take: each has 47,616 bytes of one buffer, and its length stands apart.
 use crate::bytes::read_bytes;
 ghost use mathlib.Core.Path.{_≡_};
 ghost use lib.ListN.{length};
@@ -36,10 +36,10 @@ pub fn holder(name: &[u8]) -> usize {
 }
 
 // Room for all of them.
-pub fn holder_buffer() -> [u8; 495616]
-    ensures { λ r. ⌜ 495616 ≡ length r ⌝ }
+pub fn holder_buffer() -> [u8; 523776]
+    ensures { λ r. ⌜ 523776 ≡ length r ⌝ }
 {
-    [0; 495616]
+    [0; 523776]
 }
 
 // Their lengths.
@@ -51,7 +51,7 @@ pub fn holder_sizes() -> [usize; 11]
 
 // Sets the one at a place to the bytes that a text stands for.
 pub fn set(bytes: &mut [u8], sizes: &mut [usize], place: usize, s: &[u8]) {
-    if bytes.len() != 495616 {
+    if bytes.len() != 523776 {
         return;
     }
     if sizes.len() != 11 {
@@ -60,14 +60,14 @@ pub fn set(bytes: &mut [u8], sizes: &mut [usize], place: usize, s: &[u8]) {
     if 10 < place {
         return;
     }
-    let start = 45056 * place;
-    let end = start + 45056;
+    let start = 47616 * place;
+    let end = start + 47616;
     sizes[place] = read_bytes(s, &mut bytes[start..end]);
 }
 
 // Sets the one at a place to the one at another.
 pub fn set_same(bytes: &mut [u8], sizes: &mut [usize], place: usize, from: usize) {
-    if bytes.len() != 495616 {
+    if bytes.len() != 523776 {
         return;
     }
     if sizes.len() != 11 {
@@ -79,8 +79,8 @@ pub fn set_same(bytes: &mut [u8], sizes: &mut [usize], place: usize, from: usize
     if 10 < from {
         return;
     }
-    for i in 0..45056 {
-        bytes[45056 * place + i] = bytes[45056 * from + i];
+    for i in 0..47616 {
+        bytes[47616 * place + i] = bytes[47616 * from + i];
     }
     sizes[place] = sizes[from];
 }
@@ -93,7 +93,7 @@ pub fn held<'a>(bytes: &'a [u8], sizes: &[usize], place: usize) -> &'a [u8] {
     if sizes.len() <= place {
         return text::part(bytes, 0, 0);
     }
-    text::part(bytes, 45056 * place, sizes[place])
+    text::part(bytes, 47616 * place, sizes[place])
 }
 
 // Copies one to the front of an output, if it fits, and gives its length.

@@ -1,7 +1,6 @@
 -- Each turn goes on by at least one byte of s; the output keeps its length.
-use native.Mathlib.Omega.{arith}
 use borrow.Author.Needs.{needs}
-use Prim.Native.Nat.{_+_, _-_, _≤_}
+use Prim.Native.Nat.{_-_}
 use lib.ListN.{length}
 use mathlib.Core.Path.{_≡_}
 use Rattle.listed.proofs.bytes.read_bytes.Statement.{statement}

@@ -1,7 +1,6 @@
 -- Only the bounds: the buffer keeps its length.
-use native.Mathlib.Omega.{arith}
 use borrow.Author.Needs.{needs}
-use Prim.Native.Nat.{_+_, _-_, _≤_}
+use Prim.Native.Nat.{_-_}
 use lib.ListN.{length}
 use mathlib.Core.Path.{_≡_}
 use Rattle.listed.proofs.holders.set_same.Statement.{statement}
@@ -13,7 +12,7 @@ abbrev Inv-loop : tie.InvT-loop
 Inv-loop bytes₀ sizes place from i₀ bytes i = length bytes ≡ length bytes₀
 
 abbrev μ-loop : tie.MeasureT-loop
-μ-loop bytes₀ sizes place from i₀ bytes i = 45056 - i
+μ-loop bytes₀ sizes place from i₀ bytes i = 47616 - i
 
 returns : tie.Need-returns Inv-loop μ-loop
 returns c = search needs

@@ -1,9 +1,7 @@
 -- Only the bounds.
-use native.Mathlib.Omega.{arith}
 use borrow.Author.Needs.{needs}
-use Prim.Native.Nat.{_+_, _-_, _≤_}
+use Prim.Native.Nat.{_-_, _≤_}
 use lib.ListN.{length}
-use mathlib.Core.Path.{_≡_}
 use Rattle.listed.proofs.lines.number.Statement.{statement}
 use Rattle.listed.proofs.lines.number.Tie as tie
 use Rattle.listed.proofs.lines.number.Reads as reads

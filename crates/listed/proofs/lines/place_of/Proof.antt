@@ -1,9 +1,8 @@
 -- Each word takes at least one byte, so that its place is at most the byte's.
 use native.Mathlib.Omega.{arith}
 use borrow.Author.Needs.{needs}
-use Prim.Native.Nat.{_+_, _-_, _≤_}
+use Prim.Native.Nat.{_-_, _≤_}
 use lib.ListN.{length}
-use mathlib.Core.Path.{_≡_}
 use Rattle.listed.proofs.lines.place_of.Statement.{statement}
 use Rattle.listed.proofs.lines.place_of.Tie as tie
 use Rattle.listed.proofs.lines.place_of.Reads as reads

@@ -1,9 +1,8 @@
 -- Each name takes at least one byte, so that its place is at most the byte's.
 use native.Mathlib.Omega.{arith}
 use borrow.Author.Needs.{needs}
-use Prim.Native.Nat.{_+_, _-_, _≤_}
+use Prim.Native.Nat.{_-_, _≤_}
 use lib.ListN.{length}
-use mathlib.Core.Path.{_≡_}
 use Rattle.replay.proofs.counting.print_entries.Statement.{statement}
 use Rattle.replay.proofs.counting.print_entries.Tie as tie
 use Rattle.replay.proofs.counting.print_entries.Reads as reads

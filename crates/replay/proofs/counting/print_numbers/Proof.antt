@@ -1,9 +1,6 @@
 -- Only the bounds.
-use native.Mathlib.Omega.{arith}
 use borrow.Author.Needs.{needs}
-use Prim.Native.Nat.{_+_, _-_, _≤_}
-use lib.ListN.{length}
-use mathlib.Core.Path.{_≡_}
+use Prim.Native.Nat.{_-_, _≤_}
 use Rattle.replay.proofs.counting.print_numbers.Statement.{statement}
 use Rattle.replay.proofs.counting.print_numbers.Tie as tie
 use Rattle.replay.proofs.counting.print_numbers.Reads as reads
