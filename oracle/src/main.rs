@@ -2,9 +2,7 @@
 //! written from document 01 where the Rust has no counterpart.
 //!
 //! The program takes the number of rounds in thousands; `--self` to check the models alone; or `--list FILE WORDS` to write the fixed list,
-//! the words saying how. `oracle/run` builds and runs it, and passes `have_NAME` for each function that the library exports.
-
-#![cfg_attr(not(have_all), allow(dead_code))]
+//! the words saying how. `oracle/run` builds and runs it.
 
 mod buffers;
 mod describe;
@@ -35,43 +33,35 @@ use report::Report;
 use shim::{Tags, GBZ};
 use std::process::ExitCode;
 
-/// Compares each entry that the library exports, and notes the others.
-macro_rules! compare {
-    ($report:ident, $rounds:ident, $($have:ident $module:ident::$entry:ident,)*) => {$(
-        #[cfg($have)]
-        $module::$entry(&mut $report, $rounds);
-        #[cfg(not($have))]
-        $report.absent(stringify!($entry));
-    )*};
-}
-
 /// Compares all entries.
-#[cfg_attr(not(have_all), allow(unused_variables))]
 fn entries(mut report: Report, rounds: usize) -> Report {
-    compare!(report, rounds,
-        have_counts records::counts,
-        have_name records::name,
-        have_name_at records::name_at,
-        have_subgraph_at records::subgraph_at,
-        have_translation_at records::translation_at,
-        have_is_same records::is_same,
-        have_new edits::new,
-        have_add_subgraph edits::add_subgraph,
-        have_add_translation edits::add_translation,
-        have_make_subgraph_of edits::make_subgraph_of,
-        have_add_translation_to edits::add_translation_to,
-        have_add_relationships edits::add_relationships,
-        have_from_header_lines reading::from_header_lines,
-        have_from_tags reading::from_tags,
-        have_error_message reading::error_message,
-        have_to_gfa_header_lines writing::to_gfa_header_lines,
-        have_to_gaf_header_lines writing::to_gaf_header_lines,
-        have_set_tags writing::set_tags,
-        have_is_subgraph_of paths::is_subgraph_of,
-        have_translates_to paths::translates_to,
-        have_describe_relationship describe::describe_relationship,
-        have_check_strict strict::check_strict,
-    );
+    let compare = [
+        records::counts,
+        records::name,
+        records::name_at,
+        records::subgraph_at,
+        records::translation_at,
+        records::is_same,
+        edits::new,
+        edits::add_subgraph,
+        edits::add_translation,
+        edits::make_subgraph_of,
+        edits::add_translation_to,
+        edits::add_relationships,
+        reading::from_header_lines,
+        reading::from_tags,
+        reading::error_message,
+        writing::to_gfa_header_lines,
+        writing::to_gaf_header_lines,
+        writing::set_tags,
+        paths::is_subgraph_of,
+        paths::translates_to,
+        describe::describe_relationship,
+        strict::check_strict,
+    ];
+    for entry in compare {
+        entry(&mut report, rounds);
+    }
     report
 }
 

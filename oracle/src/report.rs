@@ -64,7 +64,6 @@ struct Entry {
 #[derive(Default)]
 pub struct Report {
     entries: BTreeMap<&'static str, Entry>,
-    absent: Vec<&'static str>,
     sample: Option<Sample>,
 }
 
@@ -107,13 +106,7 @@ impl Report {
         }
     }
 
-    /// Notes an entry that the library does not export.
-    #[allow(dead_code)]
-    pub fn absent(&mut self, name: &'static str) {
-        self.absent.push(name);
-    }
-
-    /// Prints the counts, the mismatches and the entries not compared, under a title. The result is whether every comparison agreed.
+    /// Prints the counts and the mismatches, under a title. The result is whether every comparison agreed.
     pub fn print(&self, title: &str) -> bool {
         for (name, entry) in &self.entries {
             let numbers: String = entry.numbers.iter().map(|number| format!(" {number}")).collect();
@@ -126,9 +119,6 @@ impl Report {
         let compared: u64 = self.entries.values().map(|entry| entry.compared).sum();
         let mismatches: u64 = self.entries.values().map(|entry| entry.mismatches).sum();
         println!("{title}: {compared} compared, {mismatches} mismatches");
-        if !self.absent.is_empty() {
-            println!("not compared, since the library does not export them: {}", self.absent.join(", "));
-        }
         mismatches == 0
     }
 }
