@@ -46,7 +46,7 @@ const SMALL: usize = 700;
 const SMALL_KEPT: usize = 4;
 
 /// How long the file may become, if each byte string is written once.
-const LONGEST_LIST: usize = 205_000;
+const LONGEST_LIST: usize = 240_000;
 
 /// What a call is to give beside its result: the numbers that come out, and the outputs after it.
 pub trait Listed {
