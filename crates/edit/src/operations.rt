@@ -152,7 +152,7 @@ fn write_in(
         subgraph: 0,
         translation: 0,
     };
-    let p = put_name(refs, subs, trans, pool, sizes, name);
+    let p = put_name(refs, subs, trans, pool, sizes, 0, name);
     store(refs, subs, trans, pool, p.sizes, p.place + 1, buffer);
 }
 

@@ -44,6 +44,7 @@ fn store_state(
         trans,
         pool,
         state.sizes,
+        0,
         text::part(own, 0, n - 1),
     );
     let place = placed.place;

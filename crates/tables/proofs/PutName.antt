@@ -10,6 +10,8 @@ use lib.ListN.{length, take, drop, length-append, length-drop, length-map}
 use lib.Seq.{length-take-le, take-at}
 use lib.Dec.{ltb}
 use borrow.Author.Tests.{ltb-true, lt-ltb, le-ltb}
+use Rattle.model.specs.declared.Order.the-variants.{Equal, Greater}
+use Rattle.model.specs.Statements.{Ascending}
 use Rattle.model.specs.Bytes.{Bytes, compareBytes, sameBytes, put}
 use Rattle.model.specs.Record.{insert, anyLong}
 use Rattle.record.specs.Coded.{nameIn, pairIn}
@@ -19,12 +21,12 @@ use Rattle.text.proofs.Ascending.{insert-ascending}
 use Rattle.text.proofs.Put.{length-put}
 use Rattle.text.proofs.Tests.{either-false}
 use Rattle.tables.specs.Sorted.{lower, spliced, renumbered}
-use Rattle.tables.specs.Tables.{Tables, tables, bodyIn, holdsAt, tableNames, graphIn, pairsIn, KeptPairs, Kept, NameRoom, NamePut}
+use Rattle.tables.specs.Tables.{Tables, tables, bodyIn, namesIn, holdsAt, tableNames, graphIn, pairsIn, KeptPairs, Kept, NameRoom, NamePut}
 use Rattle.tables.proofs.Lower.{lower-le, insert-new, insert-there}
 use Rattle.tables.proofs.Splice.{length-spliced, spliced-member, map-spliced, length-bodies-spliced, spliced-zero, spliced-suc}
 use Rattle.tables.proofs.Front.{take-front}
 use Rattle.tables.proofs.Renumber.{renumbered-ascending, renumbered-under, renumbered-pairs}
-use Rattle.tables.proofs.Search.{length-names}
+use Rattle.tables.proofs.Search.{length-names, name-at, name-equal}
 use Rattle.tables.proofs.Bodies.{bodies-old, body-new, start-of, size-of}
 
 -- what stands at a place, from the test
@@ -37,6 +39,26 @@ holds-true ns p name e = go (ltb p (length ns)) refl e
 
 pub holds-false : (ns : List Bytes) (p : ℕ) (name : Bytes) → holdsAt ns p name ≡ false → p < length ns → nameIn ns p ≡ name → ⊥
 holds-false ns p name e h d = false≢true (sym e ∙ rw (lt-ltb p (length ns) h) (sameBytes-true (nameIn ns p) name .1 d))
+
+-- a name that compares as greater is another, and as equal the same
+pub greater-differs : (x y : Bytes) → compareBytes x y ≡ Greater → sameBytes x y ≡ false
+greater-differs x y e = go (sameBytes x y) refl
+  where
+    go : (t : Bool) → sameBytes x y ≡ t → t ≡ false
+    go false d = refl
+    go true d = let z : _≡_ {A = ℕ} 0 1 = cc (rw (sameBytes-true x y .0 d) at e, bytes-order .refl-equal y) in absurd (omega arith)
+
+pub equal-same : (x y : Bytes) → compareBytes x y ≡ Equal → sameBytes x y ≡ true
+equal-same x y e = sameBytes-true x y .1 (bytes-order .same x y e)
+
+-- a name that is found stands at its place
+pub found-place : (name pool : Bytes) (refs : List ℕ) (n p : ℕ) → n ≤ length refs → Ascending compareBytes (namesIn pool n refs) → holdsAt (namesIn pool n refs) p name ≡ true
+    → (p ≡ lower compareBytes name (namesIn pool n refs)) × (p < n)
+found-place name pool refs n p fits asc e =
+    let l = length-names pool n refs fits in
+    let (h, d) = holds-true (namesIn pool n refs) p name e in
+    let k : p < n = omega arith in
+    (sym (name-equal name pool refs n p fits k asc (rw (sym (name-at pool n refs p k) ∙ d) (bytes-order .refl-equal name))), k)
 
 pub same-put : (t : Tables) (name : Bytes) (p : ℕ) → Kept t → p ≡ lower compareBytes name (tableNames t) → holdsAt (tableNames t) p name ≡ true → NamePut t name t p
 same-put t name p k e h =

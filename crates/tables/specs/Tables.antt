@@ -13,6 +13,7 @@ use Rattle.model.specs.Statements.{Ascending}
 use Rattle.record.specs.Test.{Under}
 use Rattle.record.specs.Coded.{Coded, nameIn, meaning}
 use Rattle.tables.specs.declared.putting.Sizes.{Sizes}
+use Rattle.tables.specs.declared.putting.Sought.{Sought}
 use Rattle.tables.specs.Sorted.{lower}
 
 -- the tables, of which as much is in use as the sizes say
@@ -44,6 +45,12 @@ pairsIn n xs = map placesOf (take n xs)
 -- the name at place p is `name`
 abbrev pub holdsAt : List Bytes → ℕ → Bytes → Bool
 holdsAt ns p name = cond (ltb p (length ns)) (sameBytes (nameIn ns p) name) false
+
+-- what a search for a name among n names tells
+pub record Seeks (ns : List Bytes) (n : ℕ) (name : Bytes) (s : Sought) : Type 0 where
+  pub place : s .place ≡ lower compareBytes name ns
+  pub there : s .there ≡ holdsAt ns (s .place) name
+  pub within : s .place ≤ n
 
 abbrev pub tableNames : Tables → List Bytes
 tableNames t = namesIn (t .pool) (t .sizes .names) (t .refs)

@@ -10,7 +10,7 @@ ghost use lib.ListN.{length};
 ghost use Rattle.model.specs.Bytes.{compareBytes};
 ghost use Rattle.model.specs.Statements.{Ascending};
 ghost use Rattle.tables.specs.Sorted.{lower, placeAfter};
-ghost use Rattle.tables.specs.Tables.{tables, bodyIn, namesIn, holdsAt, Kept, NameRoom, PairRoom, NamePut, PairPut};
+ghost use Rattle.tables.specs.Tables.{tables, bodyIn, namesIn, holdsAt, Kept, NameRoom, PairRoom, NamePut, PairPut, Seeks};
 
 // How much of the tables is in use: names, bytes of the pool, and pairs of each kind.
 pub struct Sizes {
@@ -24,6 +24,12 @@ pub struct Sizes {
 pub struct Placed {
     pub place: usize,
     pub sizes: Sizes,
+}
+
+// Where a name stands or would stand among others, and whether it is there.
+pub struct Sought {
+    pub place: usize,
+    pub there: bool,
 }
 
 // A table with room for the names of two full records and four more.
@@ -73,10 +79,10 @@ pub(crate) fn body(pool: &[u8], r: u32) -> &[u8]
     text::part(pool, (r / 65536) as usize, (r % 65536) as usize)
 }
 
-// How many of the n names, which ascend, are less than `name`.
-pub fn name_place(refs: &[u32], pool: &[u8], n: usize, name: &[u8]) -> usize
+// Looks for a name among the n names, which ascend.
+fn seek(refs: &[u32], pool: &[u8], n: usize, name: &[u8]) -> Sought
     requires { ⌜ (n ≤ length (now refs)) × Ascending compareBytes (namesIn (now pool) n (now refs)) ⌝ }
-    ensures { λ r. ⌜ (r ≡ lower compareBytes (now (name .entry)) (namesIn (now (pool .entry)) n (now (refs .entry)))) × (r ≤ n) ⌝ }
+    ensures { λ r. ⌜ Seeks (namesIn (now (pool .entry)) n (now (refs .entry))) n (now (name .entry)) r ⌝ }
 {
     let mut lo = 0;
     let mut hi = n;
@@ -84,11 +90,27 @@ pub fn name_place(refs: &[u32], pool: &[u8], n: usize, name: &[u8]) -> usize
         let mid = lo + (hi - lo) / 2;
         match text::compare(body(pool, refs[mid]), name) {
             Order::Less => lo = mid + 1,
-            Order::Equal => return mid,
+            Order::Equal => {
+                return Sought {
+                    place: mid,
+                    there: true,
+                };
+            }
             Order::Greater => hi = mid,
         }
     }
-    lo
+    Sought {
+        place: lo,
+        there: false,
+    }
+}
+
+// How many of the n names, which ascend, are less than `name`.
+pub fn name_place(refs: &[u32], pool: &[u8], n: usize, name: &[u8]) -> usize
+    requires { ⌜ (n ≤ length (now refs)) × Ascending compareBytes (namesIn (now pool) n (now refs)) ⌝ }
+    ensures { λ r. ⌜ (r ≡ lower compareBytes (now (name .entry)) (namesIn (now (pool .entry)) n (now (refs .entry)))) × (r ≤ n) ⌝ }
+{
+    seek(refs, pool, n, name).place
 }
 
 // Whether `name` stands at place p of the n names.
@@ -102,13 +124,28 @@ pub(crate) fn is_at(refs: &[u32], pool: &[u8], n: usize, p: usize, name: &[u8]) 
     text::same(body(pool, refs[p]), name)
 }
 
-// Puts a name into the tables, unless it is there, and gives its place.
+// Looks for a name among the n names, which ascend, at one place first.
+fn seek_near(refs: &[u32], pool: &[u8], n: usize, near: usize, name: &[u8]) -> Sought
+    requires { ⌜ (n ≤ length (now refs)) × Ascending compareBytes (namesIn (now pool) n (now refs)) ⌝ }
+    ensures { λ r. ⌜ Seeks (namesIn (now (pool .entry)) n (now (refs .entry))) n (now (name .entry)) r ⌝ }
+{
+    if is_at(refs, pool, n, near, name) {
+        return Sought {
+            place: near,
+            there: true,
+        };
+    }
+    seek(refs, pool, n, name)
+}
+
+// Puts a name into the tables, unless it is there, and gives its place. The place `near` is looked at first.
 pub fn put_name(
     refs: &mut [u32],
     subs: &mut [u32],
     trans: &mut [u32],
     pool: &mut [u8],
     sizes: Sizes,
+    near: usize,
     name: &[u8],
 ) -> Placed
     requires { ⌜ Kept (tables (now refs) (now subs) (now trans) (now pool) sizes) ⌝ }
@@ -117,8 +154,9 @@ pub fn put_name(
 {
     let n = sizes.names;
     let at = sizes.bytes;
-    let p = name_place(refs, pool, n, name);
-    if is_at(refs, pool, n, p, name) {
+    let sought = seek_near(refs, pool, n, near, name);
+    let p = sought.place;
+    if sought.there {
         return Placed {
             place: p,
             sizes: sizes,
@@ -150,6 +188,27 @@ fn moved_place(x: usize, p: usize, before: usize, now: usize) -> usize
     if p <= x { x + 1 } else { x }
 }
 
+// The first place of the last of n pairs, or 0 where there is none.
+fn first_of_last(pairs: &[u32], n: usize) -> usize
+    requires { ⌜ n ≤ length (now pairs) ⌝ }
+{
+    if n == 0 {
+        return 0;
+    }
+    let x = pairs[n - 1] as usize;
+    x / 65536
+}
+
+// The first place of the last pair of a kind: in relations that are in order the next one often begins there too.
+fn last_first(kind: Kind, subs: &[u32], trans: &[u32], sizes: Sizes) -> usize
+    requires { ⌜ (sizes .subgraph ≤ length (now subs)) × (sizes .translation ≤ length (now trans)) ⌝ }
+{
+    match kind {
+        Kind::Subgraph => first_of_last(subs, sizes.subgraph),
+        Kind::Translation => first_of_last(trans, sizes.translation),
+    }
+}
+
 // Puts a pair of a kind with its two names into the tables, unless it is there.
 pub fn put_pair(
     kind: Kind,
@@ -165,8 +224,9 @@ pub fn put_pair(
     requires { ⌜ PairRoom (tables (now refs) (now subs) (now trans) (now pool) sizes) (now from) (now to) ⌝ }
     ensures { λ r. ⌜ PairPut kind (tables (now (refs .entry)) (now (subs .entry)) (now (trans .entry)) (now (pool .entry)) sizes) (now (from .entry)) (now (to .entry)) (tables (now (refs .exit)) (now (subs .exit)) (now (trans .exit)) (now (pool .exit)) r) ⌝ }
 {
-    let a = put_name(refs, subs, trans, pool, sizes, from);
-    let b = put_name(refs, subs, trans, pool, a.sizes, to);
+    let near = last_first(kind, subs, trans, sizes);
+    let a = put_name(refs, subs, trans, pool, sizes, near, from);
+    let b = put_name(refs, subs, trans, pool, a.sizes, a.sizes.names, to);
     let x = moved_place(a.place, b.place, a.sizes.names, b.sizes.names);
     let pair = (x * 65536 + b.place) as u32;
     match kind {

@@ -12,11 +12,8 @@ use Rattle.tables.proofs.putting.put_name.Tie as tie
 abbrev before : tie.Start → Tables
 before s = tables (s .args .refs .now) (s .args .subs .now) (s .args .trans .now) (s .args .pool .now) (s .args .sizes)
 
-name-place-requires : tie.Need-name-place-requires
-name-place-requires c κs = search needs
-
-is-at-requires : tie.Need-is-at-requires
-is-at-requires c κs = search needs
+seek-near-requires : tie.Need-seek-near-requires
+seek-near-requires c κs = search needs
 
 same-length : tie.Need-same-length
 same-length c = search needs
@@ -26,8 +23,9 @@ same-length-2 c = search needs
 
 returns : tie.Need-returns
 returns c =
-    let s = c .before .before .before .before .before .before .before .before .before .before .before .before in
-    same-put (before s) _ (c .before .before .before .before .name-place .result) (s .pre .0) (c .before .before .before .before .name-place .ensures .0) (sym (c .before .is-at .ensures) ∙ c .if1 .taken)
+    let s = c .before .before .before .before .before .before .before .before .before in
+    let k = c .before .seek-near in
+    same-put (before s) _ (k .result .place) (s .pre .0) (k .ensures .place) (sym (k .ensures .there) ∙ c .if1 .taken)
 
 copy-requires : tie.Need-copy-requires
 copy-requires c κs = search needs
@@ -49,7 +47,7 @@ cast-renumber c = search needs
 
 renumber-requires : tie.Need-renumber-requires
 renumber-requires c κs =
-    let s = c .before .before .before .before .before .before .before .before .before .before .before .before .before .before .before .before .before .before .before .before .before in
+    let s = c .before .before .before .before .before .before .before .before .before .before .before .before .before .before .before .before .before .before in
     let k = s .pre .0 .subgraph in
     (omega (arith, k .within), under-weaken _ 65535 _ (omega (arith, s .pre .0 .few, s .pre .1 .count)) (k .under))
 
@@ -58,12 +56,12 @@ cast-renumber-2 c = search needs
 
 renumber-requires-2 : tie.Need-renumber-requires-2
 renumber-requires-2 c κs =
-    let s = c .before .before .before .before .before .before .before .before .before .before .before .before .before .before .before .before .before .before .before .before .before .before .before .before .before in
+    let s = c .before .before .before .before .before .before .before .before .before .before .before .before .before .before .before .before .before .before .before .before .before .before in
     let k = s .pre .0 .translation in
     (omega (arith, k .within), under-weaken _ 65535 _ (omega (arith, s .pre .0 .few, s .pre .1 .count)) (k .under))
 
-add-t27 : tie.Need-add-t27
-add-t27 c = search needs
+add-t25 : tie.Need-add-t25
+add-t25 c = search needs
 
 same-length-3 : tie.Need-same-length-3
 same-length-3 c = search needs
@@ -79,11 +77,11 @@ same-length-6 c = search needs
 
 returns-2 : tie.Need-returns-2
 returns-2 c =
-    let s = c .before .before .before .before .before .before .before .before .before .before .before .before .before .before .before .before .before .before .before .before .before .before .before .before .before .before .before .before in
-    let p = c .before .before .before .before .before .before .before .before .before .before .before .before .before .before .before .before .before .before .before .before .name-place in
     let e = c .before .before .before .before .before .before .before .before .before .before .before .before .before .before .before .before in
+    let s = e .before .before .before .before .before .before .before .before .before in
+    let k = e .before .seek-near in
     let i = c .before .before .before .before .before .before .before .before .before .before .before .before .before .before .copy in
-    new-put (before s) (s .args .name .now) (s .pre .0) (s .pre .1) (p .result) (p .ensures .0) (sym (e .before .is-at .ensures) ∙ e .if1 .left) _ _ _ _ (i .result)
+    new-put (before s) (s .args .name .now) (s .pre .0) (s .pre .1) (k .result .place) (k .ensures .place) (sym (k .ensures .there) ∙ e .if1 .left) _ _ _ _ (i .result)
     (c .before .before .before .before .before .before .before .before .before .before .insert-at .ensures)
     (c .before .before .before .before .before .before .renumber .ensures)
     (c .before .before .renumber2 .ensures)
@@ -94,8 +92,7 @@ pub put-name-spec : {M : Type 1} → statement M
 put-name-spec =
     tie.close
     (tie.spec
-    name-place-requires
-    is-at-requires
+    seek-near-requires
     same-length
     same-length-2
     returns
@@ -108,7 +105,7 @@ put-name-spec =
     renumber-requires
     cast-renumber-2
     renumber-requires-2
-    add-t27
+    add-t25
     same-length-3
     same-length-4
     same-length-5

@@ -15,7 +15,7 @@ first s = tables (s .args .refs .now) (s .args .subs .now) (s .args .trans .now)
 -- with both names in
 module _ (w : tie.After-put-name2) where
   abbrev start : tie.Start
-  start = w .before .before .before .before .before .before .before .before .before .before .before .before .before .before .before .before .before .before .before .before .before .before .before .before
+  start = w .before .before .before .before .before .before .before .before .before .before .before .before .before .before .before .before .before .before .before .before .before .before .before .before .before .before .before
 
   abbrev name : tie.After-put-name
   name = w .before .before .before .before .before .before .before .before .before .before .before .before .before
@@ -38,14 +38,19 @@ small c =
     let w = c .before .before .before .before .before .before .before .before .before in
     places-small (first (start w)) (mid w) (both w) _ _ _ _ (c .moved-place .result) (one w) (two w) (c .moved-place .ensures)
 
+last-first-requires : tie.Need-last-first-requires
+last-first-requires c κs =
+    let s = c .before .before .before .before .before .before .before .before in
+    (s .pre .0 .subgraph .within, s .pre .0 .translation .within)
+
 put-name-requires : tie.Need-put-name-requires
 put-name-requires c κs =
-    let s = c .before .before .before .before .before .before .before .before .before .before in
+    let s = c .before .before .before .before .before .before .before .before .before .before .before .before .before in
     (s .pre .0, first-room (first s) _ _ (s .pre .1))
 
 put-name-requires-2 : tie.Need-put-name-requires-2
 put-name-requires-2 c κs =
-    let s = c .before .before .before .before .before .before .before .before .before .before .before .before .before .before .before .before .before .before .before .before .before .before .before in
+    let s = c .before .before .before .before .before .before .before .before .before .before .before .before .before .before .before .before .before .before .before .before .before .before .before .before .before .before in
     let p = c .before .before .before .before .before .before .before .before .before .before .before .before .put-name in
     (p .ensures .kept, second-room (first s) _ _ _ _ (s .pre .1) (p .ensures) (p .kept .0) (p .kept .1 .1 .1 .0))
 
@@ -129,6 +134,7 @@ pub put-pair-spec : {M : Type 1} → statement M
 put-pair-spec =
     tie.close
     (tie.spec
+    last-first-requires
     put-name-requires
     put-name-requires-2
     moved-place-requires

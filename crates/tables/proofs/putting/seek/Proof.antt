@@ -1,20 +1,22 @@
--- The place lies between the two bounds.
+-- The place lies between the two bounds, and the name does not stand at the upper one.
 use mathlib.Core.Path.{_≡_, sym, ap, _∙_}
+use mathlib.Core.Bool.{false}
 use Prim.Native.Nat.{ℕ, _+_, _-_, _/_, _≤_}
 use lib.ListN.{getD}
 use Rattle.model.specs.Statements.{Ascending}
 use Rattle.model.specs.Bytes.{Bytes, compareBytes}
 use Rattle.tables.specs.Sorted.{lower}
-use Rattle.tables.specs.Tables.{bodyIn, namesIn}
+use Rattle.tables.specs.Tables.{bodyIn, namesIn, holdsAt}
 use Rattle.tables.proofs.Lower.{lower-le}
-use Rattle.tables.proofs.Search.{length-names, name-less, name-equal, name-greater}
+use Rattle.tables.proofs.Search.{length-names, name-less, name-equal, name-greater, holds-past, holds-within}
+use Rattle.tables.proofs.PutName.{greater-differs, equal-same}
 use borrow.Author.Needs.{needs}
 use native.Mathlib.Omega.{arith}
-use Rattle.tables.proofs.putting.name_place.Statement.{statement}
-use Rattle.tables.proofs.putting.name_place.Tie as tie
+use Rattle.tables.proofs.putting.seek.Statement.{statement}
+use Rattle.tables.proofs.putting.seek.Tie as tie
 
 abbrev Inv-loop : tie.InvT-loop
-Inv-loop refs pool n name lo₀ hi₀ lo hi = (lo ≤ hi) × (hi ≤ n) × (lo ≤ lower compareBytes name (namesIn pool n refs)) × (lower compareBytes name (namesIn pool n refs) ≤ hi)
+Inv-loop refs pool n name lo₀ hi₀ lo hi = (lo ≤ hi) × (hi ≤ n) × (lo ≤ lower compareBytes name (namesIn pool n refs)) × (lower compareBytes name (namesIn pool n refs) ≤ hi) × (holdsAt (namesIn pool n refs) hi name ≡ false)
 
 abbrev μ-loop : tie.MeasureT-loop
 μ-loop refs pool n name lo₀ hi₀ lo hi = hi - lo
@@ -40,7 +42,7 @@ loop-holds : tie.Need-loop-holds Inv-loop μ-loop
 loop-holds c =
     let a = c .before .before .before .args in
     let l = length-names (a .pool .now) (a .n) (a .refs .now) (search needs) in
-    (search needs, search needs, search needs, omega (arith, lower-le compareBytes (a .name .now) (namesIn (a .pool .now) (a .n) (a .refs .now))))
+    (search needs, search needs, search needs, omega (arith, lower-le compareBytes (a .name .now) (namesIn (a .pool .now) (a .n) (a .refs .now))), holds-past (a .name .now) (a .pool .now) (a .refs .now) (a .n) (a .n) (search needs) (search needs))
 
 sub-mid : tie.Need-sub-mid Inv-loop μ-loop
 sub-mid c = search needs
@@ -74,7 +76,7 @@ loop-again c =
     let p = found (c .before .before) in
     let a = start (c .before .before) .args in
     let h = name-less (a .name .now) (a .pool .now) (a .refs .now) (a .n) (middle (c .before .before)) (search needs) (omega arith) (asc (c .before .before)) (p ∙ c .enum-told .given .1) in
-    (omega arith, omega arith, omega arith, omega arith)
+    (omega arith, omega arith, omega arith, omega arith, at-loop (c .before .before) .loop .inv .4)
 
 enum-told-2 : tie.Need-enum-told-2 Inv-loop μ-loop
 enum-told-2 c = search needs
@@ -84,7 +86,8 @@ returns c =
     let p = found (c .before .before) in
     let a = start (c .before .before) .args in
     let h = name-equal (a .name .now) (a .pool .now) (a .refs .now) (a .n) (middle (c .before .before)) (search needs) (omega arith) (asc (c .before .before)) (p ∙ c .enum-told2 .given .1) in
-    (sym h, omega arith)
+    let e = equal-same _ _ (p ∙ c .enum-told2 .given .1) in
+    record { place = sym h; there = sym (holds-within (a .name .now) (a .pool .now) (a .refs .now) (a .n) (middle (c .before .before)) (search needs) (omega arith) ∙ e); within = omega arith }
 
 enum-told-3 : tie.Need-enum-told-3 Inv-loop μ-loop
 enum-told-3 c = search needs
@@ -97,13 +100,18 @@ loop-again-2 c =
     let p = found (c .before .before) in
     let a = start (c .before .before) .args in
     let h = name-greater (a .name .now) (a .pool .now) (a .refs .now) (a .n) (middle (c .before .before)) (search needs) (omega arith) (p ∙ c .enum-told3 .given .1) in
-    (omega arith, omega arith, omega arith, omega arith)
+    let d = greater-differs _ _ (p ∙ c .enum-told3 .given .1) in
+    (omega arith, omega arith, omega arith, omega arith, holds-within (a .name .now) (a .pool .now) (a .refs .now) (a .n) (middle (c .before .before)) (search needs) (omega arith) ∙ d)
 
 returns-2 : tie.Need-returns-2 Inv-loop μ-loop
-returns-2 c = (omega arith, omega arith)
+returns-2 c =
+    let l = c .before .loop in
+    let a = c .before .before .before .before .before .args in
+    let e : l .hi ≡ l .lo = omega (arith, c .loop-test .left) in
+    record { place = omega arith; there = sym (ap (λ (i : ℕ). holdsAt (namesIn (a .pool .now) (a .n) (a .refs .now)) i (a .name .now)) (sym e) ∙ l .inv .4); within = omega arith }
 
-pub name-place-spec : {M : Type 1} → statement M
-name-place-spec =
+pub seek-spec : {M : Type 1} → statement M
+seek-spec =
     tie.close
     (tie.spec
     Inv-loop
