@@ -25,9 +25,6 @@ getD-drop (x ∷ p) (suc at) i = let e : suc at + i ≡ suc (at + i) = omega ari
 number-drop : (p : Bytes) (at i : ℕ) → number (drop at p) i ≡ number p (at + i)
 number-drop p at i = let e : at + i + 1 ≡ at + (i + 1) = omega arith in rw (e, getD-drop p at i, getD-drop p at (i + 1))
 
-number-le16 : (n : ℕ) (r : Bytes) → n < 65536 → number (le16 n ++ r) 0 ≡ n
-number-le16 n r h = omega arith
-
 number-kind : (k : Kind) → kindOf (kindNumber k) ≡ k
 number-kind Subgraph = refl
 number-kind Translation = refl

@@ -18,9 +18,6 @@ use Rattle.text.proofs.Split.{split-from}
 -- ------------------------------------------------------------------ a byte that a text is without
 
 module _ {x : ℕ} where
-  pub without-nil : Without x []
-  without-nil m = List·Memᴰ·not-nil m
-
   pub without-cons : (y : ℕ) (s : Bytes) → x ≢ y → Without x s → Without x (y ∷ s)
   without-cons y s n w m = ⊎-elim n w (List·Memᴰ·cases-cons m)
 

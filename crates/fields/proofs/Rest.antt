@@ -153,9 +153,6 @@ module _ (t : Bytes) (lines at e : ℕ) (g : GraphName) (h : at < length t) (f :
   line-length : length (between t at e) ≡ e - at
   line-length = part-length 10 t at e (omega arith) f
 
-  line-within : (at ≤ e) × (e ≤ length t)
-  line-within = part-within 10 t at e (omega arith) f
-
   rest-line : restOf Header t lines at at g
       ≡ afterReading (lineFields (suc lines) at (between t at e) (split 9 (between t at e)) g) (linesFrom (suc (suc lines)) (e + 1) (linesAt t (e + 1)))
   rest-line =

@@ -151,9 +151,6 @@ earlier-snoc ss ts s t (inr h) = inr (simp length-append (omega arith), before-s
 pub earlier-last : (ss : List Step) (s t : Step) → StepBefore s t → Earlier (ss ++ (s ∷ [])) (ss ++ (t ∷ []))
 earlier-last ss s t h = inr (simp length-append, before-last ss s t h)
 
-pub earlier-more : (ss : List Step) (s : Step) → Earlier ss (ss ++ (s ∷ []))
-earlier-more ss s = inl (simp length-append (omega arith))
-
 pub not-later-snoc : (ss ts : List Step) (s : Step) → NotLater ss ts → NotLater (ss ++ (s ∷ [])) (ts ++ (s ∷ []))
 not-later-snoc ss ts s (inl e) = inl (rw e)
 not-later-snoc ss ts s (inr h) = inr (earlier-snoc ss ts s s h)

@@ -1,6 +1,6 @@
 -- The parts of the test by name.
-use mathlib.Core.Path.{_≡_, refl}
-use mathlib.Core.Bool.{Bool, true, false}
+use mathlib.Core.Path.{_≡_}
+use mathlib.Core.Bool.{true}
 use Prim.Native.Nat.{_+_, _≤_}
 use lib.ListN.{length, drop}
 use borrow.Author.Tests.{leb-true, le-leb, eqb-true, eq-eqb}
@@ -65,11 +65,3 @@ held-record b h =
       h .order,
       h .used,
     ) (h .rest)
-
--- a buffer that fails a part fails the test
-pub not-held : (b : Bytes) → (Held b → ⊥) → isRecord b ≡ false
-not-held b n = go (isRecord b) refl
-  where
-    go : (t : Bool) → isRecord b ≡ t → t ≡ false
-    go true e = absurd (n (held b e))
-    go false e = refl

@@ -47,9 +47,6 @@ module _ {A : Type 0} (b : Bytes) (f : GraphName → A) where
       go true none e d = let z : _≡_ {A = ℕ} 16 0 = sym (rw (e, d)) ∙ h in absurd (omega arith)
       go true (some g) e d = (g, d, rw (e, d))
 
-pub fault-length : (b : Bytes) → faultOf b ≡ 0 → length b ≡ 32768
-fault-length b h = let r = asked-gives b (λ g. g) h in decode-held b (r .0) (r .1) .long
-
 module _ {A : Type 0} (b c : Bytes) (f : GraphName → GraphName → A) where
   pub both-refuse : (faultOfBoth b c ≡ 0 → ⊥) → askedBoth b c f ≡ refuses (faultOfBoth b c)
   unfolding askedBoth faultOfBoth
@@ -72,11 +69,6 @@ module _ {A : Type 0} (b c : Bytes) (f : GraphName → GraphName → A) where
       go true none p e d k = let w : _≡_ {A = ℕ} 16 0 = sym (rw (e, d)) ∙ z in absurd (omega arith)
       go true (some g) none e d k = let w : _≡_ {A = ℕ} 16 0 = sym (rw (e, d, k)) ∙ z in absurd (omega arith)
       go true (some g) (some h) e d k = (g, h, d, k, rw (e, d, k))
-
-pub both-lengths : (b c : Bytes) → faultOfBoth b c ≡ 0 → (length b ≡ 32768) × (length c ≡ 32768)
-both-lengths b c z =
-    let r = both-give b c (λ g h. g) z in
-    (decode-held b (r .0) (r .2) .long, decode-held c (r .1) (r .3) .long)
 
 -- ------------------------------------------------------------------ places
 
