@@ -1,5 +1,5 @@
-// A record's reader: a buffer with its four counts. A function over it takes it apart and calls one on the slice and the numbers; every
-// other module calls `part_at`, whose parameters are plain.
+// A record's reader: a buffer with its four counts. A function over it takes it apart and calls one on the slice and the numbers; other
+// modules call `part_at`, whose parameters are plain, or in a loop over many names `name_in` of `layout`.
 use crate::layout::Part;
 use crate::layout::part_of;
 use text::read16;
