@@ -1,4 +1,4 @@
-//! Comparisons of the entries that make and change records with the Rust's methods: whole buffers, and numbers by document 01's sizes.
+//! Comparisons of the entries that make and change records with the Rust's methods: whole buffers, and numbers by the sizes of docs/FORMAT.md.
 
 use crate::buffers;
 use crate::encoder::{decode, decode_two, encode, sizes, RECORD, ZEROS};

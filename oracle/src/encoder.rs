@@ -1,4 +1,4 @@
-//! The layout of a record, written from document 01 alone: the sizes of a graph, its encoding, and the test and decoding of a buffer.
+//! The layout of a record, written from docs/FORMAT.md alone: the sizes of a graph, its encoding, and the test and decoding of a buffer.
 
 use crate::graph::{Graph, Kind, Name, Pair, KINDS};
 use std::collections::BTreeSet;

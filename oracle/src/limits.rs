@@ -1,4 +1,4 @@
-//! Graphs at the limits of document 01, and texts that pass them by one.
+//! Graphs at the limits of docs/FORMAT.md, and texts that pass them by one.
 
 use crate::encoder::{BODIES, LONGEST, NAMES, PAIRS};
 use crate::generate::{full_graph, full_names, numbered, Random};

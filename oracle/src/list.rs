@@ -13,7 +13,7 @@ use std::fmt::Write;
 
 /// What the head of the file says, after the line on how it was made.
 const HEAD: &str = "\
-# The answers are those that the oracle expects, from the Rust and from its models of document 01, not those that the library gave.
+# The answers are those that the oracle expects, from the Rust and from its models of docs/FORMAT.md, not those that the library gave.
 # The program replay (crates/replay) makes the calls and compares all that comes out; it has this file as its standard input.
 #
 # A line that begins with one of these names sets a byte string, which stays until it is set again:

@@ -1,5 +1,5 @@
 //! Compares the functions of `libgraph_name.a` with the Rust module `src/name.rs` of gbwt-rs, which is built as it stands, and with models
-//! written from document 01 where the Rust has no counterpart.
+//! written from docs/FORMAT.md where the Rust has no counterpart.
 //!
 //! The program takes the number of rounds in thousands; `--self` to check the models alone; or `--list FILE WORDS` to write the fixed list,
 //! the words saying how. `oracle/run` builds and runs it.

@@ -1,4 +1,4 @@
-//! Paths over the union of two graphs, and the description of a path, written from document 01 alone (its chains and slips).
+//! Paths over the union of two graphs, and the description of a path, written from docs/FORMAT.md alone.
 //!
 //! `best_path` measures how far each name is from the target, and then takes at each name the first step that comes nearer. `enumerated`
 //! lists every path of the fewest steps and takes the first; it is slow, and checks the other on small graphs.
@@ -50,7 +50,7 @@ fn distances<'a>(steps: &Steps<'a>, target: &'a [u8]) -> BTreeMap<&'a [u8], usiz
     known
 }
 
-/// The path from the first graph to the second over the pairs of both: of those with the fewest steps the first in document 01's order.
+/// The path from the first graph to the second over the pairs of both: of those with the fewest steps the first in the order of docs/FORMAT.md.
 pub fn best_path(first: &Graph, second: &Graph, full: bool) -> Option<Path> {
     let (start, target) = (first.name.as_deref()?, second.name.as_deref()?);
     let steps = steps(first, second, full);
@@ -113,7 +113,7 @@ pub fn path_bytes(path: &Path) -> Vec<u8> {
     bytes
 }
 
-/// The description of how two graphs are related, as document 01 tells it of the Rust.
+/// The description of how two graphs are related, as docs/FORMAT.md tells it of the Rust.
 pub fn description(first: &Graph, second: &Graph, first_desc: &[u8], second_desc: &[u8]) -> Vec<u8> {
     if let Some(path) = best_path(first, second, true) {
         return described_path(&path, first_desc, second_desc);

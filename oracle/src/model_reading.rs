@@ -1,4 +1,4 @@
-//! A reading of header lines and tags written from document 01 alone, with the number, line and place of each refusal, and the text of
+//! A reading of header lines and tags written from docs/FORMAT.md alone, with the number, line and place of each refusal, and the text of
 //! the message that the Rust gives for it.
 
 use crate::encoder::{BODIES, LONGEST, NAMES, PAIRS};

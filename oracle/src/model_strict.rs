@@ -14,7 +14,7 @@ const VALUES: [(u8, &str); 7] = [
     (b'B', r"[cCsSiIf](,[-+]?[0-9]*\.?[0-9]+([eE][-+]?[0-9]+)?)+"),
 ];
 
-/// The expression of a tag: two letters, as document 01 has it.
+/// The expression of a tag: two letters, as docs/FORMAT.md has it.
 const TAG: &str = "[A-Za-z][A-Za-z]";
 
 /// One item of an expression: what it matches once, and how often it may stand.

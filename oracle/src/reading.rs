@@ -20,7 +20,7 @@ const BEGINNINGS: [&[u8]; 9] =
 /// Bytes for the texts after those beginnings.
 const FURTHER_BYTES: &[u8] = b"\t\n:,Zab";
 
-/// The header texts of document 01's examples, and others of a special kind.
+/// The header texts of the examples of docs/FORMAT.md, and others of a special kind.
 const EXAMPLES: [&[u8]; 22] = [
     b"H\tNM:Z:", b"@RN\t", b"@RN", b"H\t", b"H\tSG:i:7", b"H\tSG:Z:a,b,c", b"@SG\ta,b\tc",
     b"H\tVN:Z:1.1\tNM:Z:b2\n@SG\tb2\tb1\nH\tTL:Z:b1,a\n", b"", b"\n", b"\n\n", b"\tx", b"H\tNM:Z:a\r\n", b"H\tVN:Z", b"H\tVN:Z:\tSG", b"@RN\ta\tb", b"@SG\ta\t", b"@SG\t\tb", b"@TL\ta",

@@ -1,11 +1,89 @@
 //! Safe functions over `libgraph_name.a`, one for each function of `include/graph_name.h`, with the same parameters in the same order.
 //!
 //! A slice takes the place of a pointer and a length, and `&mut u64` that of a pointer to a number. The library asks nothing else of its
-//! arguments: any bytes, lengths and numbers may come. The result is 0 for done, or the number of a refusal; the outputs are written as
-//! the header says.
+//! arguments: any bytes, lengths and numbers may come. The result is one of the numbers in [`number`], 0 for done. A number behind a
+//! `&mut u64` is written on 0 only, except `line`, `start` and `length` of the two readings, which are always written. `docs/FORMAT.md` has
+//! the formats byte for byte; `examples/example.rs` uses the functions.
+
+/// The numbers that the functions give. Where several hold, 15 of any record comes before 16 of any, then 18, then 1 to 14 in the order of the
+/// text, then 17.
+pub mod number {
+    /// Done.
+    pub const DONE: u32 = 0;
+    /// A line of fewer than two fields, which tabs separate.
+    pub const SHORT_LINE: u32 = 1;
+    /// A line's first field is neither `H` nor three bytes of which the first is `@`.
+    pub const UNKNOWN_FIRST_FIELD: u32 = 2;
+    /// A field of an `H` line under 5 bytes, or whose third or fifth byte is no colon.
+    pub const BAD_TYPED_FIELD: u32 = 3;
+    /// A value of `SG` of type Z is not two non-empty parts round one comma.
+    pub const BAD_SUBGRAPH_FIELD: u32 = 4;
+    /// A value of `TL` of type Z is not two non-empty parts round one comma.
+    pub const BAD_TRANSLATION_FIELD: u32 = 5;
+    /// An `@RN` line without exactly one further field, non-empty.
+    pub const BAD_NAME_LINE: u32 = 6;
+    /// An `@SG` line without exactly two further fields, both non-empty.
+    pub const BAD_SUBGRAPH_LINE: u32 = 7;
+    /// An `@TL` line without exactly two further fields, both non-empty.
+    pub const BAD_TRANSLATION_LINE: u32 = 8;
+    /// A relation of the subgraph tag is not two non-empty parts round one comma.
+    pub const BAD_SUBGRAPH_RELATION: u32 = 9;
+    /// A relation of the translation tag is not two non-empty parts round one comma.
+    pub const BAD_TRANSLATION_RELATION: u32 = 10;
+    /// A name of over [`MAX_NAME_BYTES`](crate::MAX_NAME_BYTES).
+    pub const LONG_NAME: u32 = 11;
+    /// Over [`MAX_NAMES`](crate::MAX_NAMES) distinct names.
+    pub const NAMES_FULL: u32 = 12;
+    /// Over [`MAX_PAIRS`](crate::MAX_PAIRS) pairs of either kind.
+    pub const PAIRS_FULL: u32 = 13;
+    /// Distinct names of over [`MAX_BODIES_BYTES`](crate::MAX_BODIES_BYTES) together.
+    pub const BODIES_FULL: u32 = 14;
+    /// A record buffer is not of [`RECORD_BYTES`](crate::RECORD_BYTES).
+    pub const WRONG_BUFFER: u32 = 15;
+    /// A record buffer breaks the layout.
+    pub const NOT_A_RECORD: u32 = 16;
+    /// An output is shorter than the result.
+    pub const OUTPUT_SHORT: u32 = 17;
+    /// A desc of over [`MAX_DESC_BYTES`](crate::MAX_DESC_BYTES).
+    pub const LONG_DESC: u32 = 18;
+}
+
+/// The kind of the step that leaves a name, in a path's bytes.
+pub mod kind {
+    /// A subgraph step.
+    pub const SUBGRAPH: u16 = 0;
+    /// A translation step.
+    pub const TRANSLATION: u16 = 1;
+    /// The last name, which no step leaves.
+    pub const LAST: u16 = 2;
+}
 
 /// The length of a record, in bytes.
 pub const RECORD_BYTES: usize = 32768;
+/// The longest name, and so the longest value of the pggname tag, in bytes.
+pub const MAX_NAME_BYTES: usize = 256;
+/// The most distinct names of a record.
+pub const MAX_NAMES: usize = 512;
+/// The most pairs of each kind.
+pub const MAX_PAIRS: usize = 1024;
+/// The most bytes of all distinct names of a record together.
+pub const MAX_BODIES_BYTES: usize = 22520;
+/// The longest desc of a description, in bytes.
+pub const MAX_DESC_BYTES: usize = 4096;
+
+/// The longest path, in bytes: an output of this length always holds one. (An output of any of the largest lengths is never refused with 17;
+/// `docs/FORMAT.md` has the sums.)
+pub const MAX_PATH_BYTES: usize = 49134;
+/// The longest GFA header lines of a record, in bytes.
+pub const MAX_GFA_BYTES: usize = 1067272;
+/// The longest GAF header lines of a record, in bytes.
+pub const MAX_GAF_BYTES: usize = 1061125;
+/// The longest value of the subgraph tag, and of the translation tag, in bytes.
+pub const MAX_RELATIONS_TAG_BYTES: usize = 526335;
+/// The most bytes of an error message beyond the part that it quotes.
+pub const MAX_MESSAGE_WORDS: usize = 68;
+/// The longest description, in bytes.
+pub const MAX_DESCRIPTION_BYTES: usize = 96216;
 
 /// The functions of the library.
 mod library {
@@ -90,7 +168,8 @@ pub fn new(name: &[u8], record: &mut [u8]) -> u32 {
     unsafe { library::graph_name_new(name.as_ptr(), name.len(), record.as_mut_ptr(), record.len()) }
 }
 
-/// Reads header lines, each ended by byte 10.
+/// Reads a text of header lines, which byte 10 ends. A refusal leaves the empty record and gives its line, from 1, and the quoted part as a
+/// place in the text; 15 leaves the buffer and gives line 0.
 #[inline]
 pub fn from_header_lines(text: &[u8], record: &mut [u8], line: &mut u64, start: &mut u64, length: &mut u64) -> u32 {
     unsafe {
@@ -100,7 +179,8 @@ pub fn from_header_lines(text: &[u8], record: &mut [u8], line: &mut u64, start: 
     }
 }
 
-/// Reads the three tag values; a flag of 0 stands for an absent tag, whose slice is not looked at.
+/// Reads the three tag values; a flag of 0 stands for an absent tag, whose slice is not looked at. A refusal leaves the empty record and gives
+/// line 0 and the quoted part as a place in its tag's value; 15 leaves the buffer.
 #[inline]
 #[allow(clippy::too_many_arguments)]
 pub fn from_tags(
@@ -214,7 +294,8 @@ pub fn is_same(record: &[u8], other: &[u8], answer: &mut u64) -> u32 {
     unsafe { library::graph_name_is_same(record.as_ptr(), record.len(), other.as_ptr(), other.len(), answer) }
 }
 
-/// Whether a path of subgraph pairs of both records leads from the first graph to the second; on a yes, its bytes.
+/// Whether a path of subgraph pairs of both records leads from the first graph to the second; on a yes, its bytes: how many names, then for
+/// each its length and its [`kind`], then the names, all numbers in two bytes, low byte first. [`MAX_PATH_BYTES`] always hold them.
 #[inline]
 pub fn is_subgraph_of(record: &[u8], other: &[u8], out: &mut [u8], answer: &mut u64) -> u32 {
     unsafe {
@@ -224,7 +305,8 @@ pub fn is_subgraph_of(record: &[u8], other: &[u8], out: &mut [u8], answer: &mut 
     }
 }
 
-/// Whether a path of pairs of either kind of both records leads from the first graph to the second; on a yes, its bytes.
+/// Whether a path of pairs of either kind of both records leads from the first graph to the second; on a yes, its bytes, as of
+/// [`is_subgraph_of`].
 #[inline]
 pub fn translates_to(record: &[u8], other: &[u8], out: &mut [u8], answer: &mut u64) -> u32 {
     unsafe {
@@ -267,7 +349,7 @@ pub fn set_tags(
     }
 }
 
-/// The description of how two graphs are related.
+/// The description of how two graphs are related, with a desc of each.
 #[inline]
 pub fn describe_relationship(
     record: &[u8], other: &[u8], self_desc: &[u8], other_desc: &[u8], out: &mut [u8], written: &mut u64,

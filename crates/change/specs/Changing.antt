@@ -49,7 +49,7 @@ pub record Room (s t : Sizes) (refs subs trans : List ℕ) (pool : Bytes) : Type
   pub few : length refs < 65536
   pub small : length pool < 65536
 
--- the sizes of a record are within document 01's limits
+-- the sizes of a record are within the limits of docs/FORMAT.md
 pub record Bounded (s : Sizes) : Type 0 where
   pub names : s .names ≤ 512
   pub bytes : s .bytes ≤ 22520

@@ -1,4 +1,4 @@
-// The operations that make and change records. Each gives document 01's number, 0 for done; a refusal leaves the buffer, save that
+// The operations that make and change records. Each gives a number of docs/FORMAT.md, 0 for done; a refusal leaves the buffer, save that
 // `new` leaves the empty record on 11.
 use change::change;
 use model::Kind;

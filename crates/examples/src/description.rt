@@ -1,4 +1,4 @@
-// Document 01's example 15: A is a subgraph of B, and their relationship is described with the texts p and q, self being A.
+// docs/FORMAT.md, example 15: A is a subgraph of B, and their relationship is described with the texts p and q, self being A.
 use crate::output::Counts;
 use crate::output::number;
 use crate::program::written;

@@ -1,4 +1,4 @@
-// Header lines by themselves: the GFA 1 specification's own example, and document 01's lines of example 16, read strictly and leniently.
+// Header lines by themselves: the GFA 1 specification's own example, and the lines of docs/FORMAT.md, example 16, read strictly and leniently.
 use crate::output::Counts;
 use crate::output::judged;
 use crate::output::print;

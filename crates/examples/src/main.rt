@@ -1,4 +1,4 @@
-// Runs document 01's examples that are not marked T, and the GFA 1 specification's own header example. A line for each answer says what
+// Runs the examples of docs/FORMAT.md that are not marked T, and the GFA 1 specification's own header example. A line for each answer says what
 // came out, and whether it is as stated; the last line counts both.
 mod description;
 mod lines;

@@ -1,4 +1,4 @@
-// Document 01's example 16: what the record program finds in three header lines, and a refusal with its message.
+// docs/FORMAT.md, example 16: what the record program finds in three header lines, and a refusal with its message.
 use crate::output::Counts;
 use crate::output::judged;
 use crate::output::number;
@@ -8,9 +8,9 @@ use crate::output::shown;
 use crate::sizes::put;
 use crate::sizes::put_text;
 use crate::sizes::record_buffer;
+use accessors::GivenCounts;
 use export::Written;
 use parse::Answer;
-use record::GivenCounts;
 
 // The text that a writer put to the front of the output, beside the one that is stated.
 pub(crate) fn written(c: Counts, label: &[u8], w: Written, out: &[u8], stated: &[u8]) -> Counts {
@@ -22,7 +22,7 @@ pub(crate) fn written(c: Counts, label: &[u8], w: Written, out: &[u8], stated: &
 
 // The counts of the example's record.
 fn counts(c: Counts, b: &[u8]) -> Counts {
-    match record::counts(b) {
+    match accessors::counts(b) {
         GivenCounts::Refused(n) => number(c, b"16 refused ", n as usize, 0),
         GivenCounts::Are {
             names,

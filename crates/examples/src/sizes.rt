@@ -1,4 +1,4 @@
-// Document 01's example 14: 512 names fit, 513 give 12; 256 bytes fit, 257 give 11; 88 names of 256 bytes give 14. Each is read from
+// docs/FORMAT.md, example 14: 512 names fit, 513 give 12; 256 bytes fit, 257 give 11; 88 names of 256 bytes give 14. Each is read from
 // header lines, and added pair by pair.
 use crate::output::Counts;
 use crate::output::number;

@@ -6,8 +6,9 @@ use Prim.Native.Nat.{ℕ}
 use lib.Seq.{append-snoc}
 use Rattle.model.specs.declared.Order.{Order}
 use Rattle.model.specs.Bytes.{Bytes}
+use Rattle.model.specs.declared.Kind.the-variants.{Subgraph, Translation}
 use Rattle.model.specs.Record.{Pair, GraphName, insert, empty, withName, judge}
-use Rattle.model.specs.Reading.{took, judged, orWrong, addSubgraphTo, addTranslationTo}
+use Rattle.model.specs.Reading.{took, judged, orWrong, addTo}
 use Rattle.model.specs.Statements.{Ascending, Valid}
 use Rattle.text.proofs.Order.{StrictOrder, pairs-order}
 use Rattle.text.proofs.Ascending.{ascending-tail, ascending-below}
@@ -37,7 +38,7 @@ abbrev pub withTranslations : GraphName → List Pair → GraphName
 withTranslations g ps = record { name = g .name; subgraph = g .subgraph; translation = ps }
 
 module _ (g : GraphName) (v : Valid g) where
-  pub adds-subgraphs : Adds addSubgraphTo (withSubgraphs g) (g .subgraph)
+  pub adds-subgraphs : Adds (addTo Subgraph) (withSubgraphs g) (g .subgraph)
   adds-subgraphs = record {
     next = λ xs p ps e number.
         let shape = append-snoc xs p ps ∙ e in
@@ -46,7 +47,7 @@ module _ (g : GraphName) (v : Valid g) where
         (judge-front (g .name) (xs ++ (p ∷ [])) ps [] (g .translation) (rw shape (v .sizes))));
   }
 
-  pub adds-translations : Adds addTranslationTo (withTranslations g) (g .translation)
+  pub adds-translations : Adds (addTo Translation) (withTranslations g) (g .translation)
   adds-translations = record {
     next = λ xs p ps e number.
         let shape = append-snoc xs p ps ∙ e in

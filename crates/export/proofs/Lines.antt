@@ -6,8 +6,9 @@ use Prim.Native.Nat.{ℕ, suc, _+_}
 use lib.ListN.{length}
 use lib.Seq.{append-snoc}
 use Rattle.model.specs.Bytes.{Bytes, sameBytes, compareBytes, compareNumbers, split, indexOf}
+use Rattle.model.specs.declared.Kind.the-variants.{Subgraph, Translation}
 use Rattle.model.specs.Record.{Pair, GraphName, empty, withName}
-use Rattle.model.specs.Reading.{took, done, typedField, gafLine, lineFields, typedFields, linesFrom, fromHeaderLines, orWrong, addSubgraphTo, addTranslationTo}
+use Rattle.model.specs.Reading.{took, done, typedField, gafLine, lineFields, typedFields, linesFrom, fromHeaderLines, orWrong, addTo}
 use Rattle.model.specs.Writing.{pairLines, nameLine}
 use Rattle.model.specs.Statements.{Without, Valid}
 use Rattle.export.proofs.Parts.{linesOf, lines-one, lines-none, split-part, split-whole, absent}
@@ -86,8 +87,8 @@ read-name before (some n) r k h rest =
 -- the lines of a format: what stands before the own name and before a pair of each kind, and what stands between two names
 module _ (name-before subgraph-before translation-before : Bytes) (between : ℕ) (g : GraphName) (v : Valid g)
     (name-line : (n : Bytes) → g .name ≡ some n → NamesLine n (name-before ++ n))
-    (subgraph-line : (p : Pair) → List·Memᴰ p (g .subgraph) → AddsLine addSubgraphTo p (pairLine subgraph-before between p))
-    (translation-line : (p : Pair) → List·Memᴰ p (g .translation) → AddsLine addTranslationTo p (pairLine translation-before between p)) where
+    (subgraph-line : (p : Pair) → List·Memᴰ p (g .subgraph) → AddsLine (addTo Subgraph) p (pairLine subgraph-before between p))
+    (translation-line : (p : Pair) → List·Memᴰ p (g .translation) → AddsLine (addTo Translation) p (pairLine translation-before between p)) where
   pub lines-read-back : fromHeaderLines (nameLine name-before (g .name) ++ pairLines subgraph-before between (g .subgraph)
       ++ pairLines translation-before between (g .translation)) ≡ done g
   unfolding fromHeaderLines

@@ -5,7 +5,7 @@ use Prim.Native.Nat.{ℕ}
 use lib.ListN.{length}
 use Rattle.model.specs.Bytes.{Bytes}
 use Rattle.model.specs.Questions.{Given, refuses, gives, mapped}
-use Rattle.model.specs.Written.{sizeOf, outputWith, Tags, TagSizes, tagSizes, putValue, outputWithTag}
+use Rattle.model.specs.Written.{sizeWritten, outputWith, Tags, TagSizes, tagSizes, putValue, outputWithTag}
 use Rattle.export.specs.declared.answer.Written.{Written}
 use Rattle.export.specs.declared.answer.Written.the-variants.{Refused, Wrote}
 use Rattle.export.specs.declared.answer.Tag.{Tag}
@@ -19,7 +19,7 @@ sizeGiven (Wrote n) = gives n
 
 -- the answer, and what the output holds
 pub record Answers (given : Given Bytes) (out : Bytes) (r : Written) (after : Bytes) : Type 0 where
-  pub answer : sizeGiven r ≡ sizeOf given
+  pub answer : sizeGiven r ≡ sizeWritten given
   pub output : after ≡ outputWith given out
 
 -- ------------------------------------------------------------------ tags

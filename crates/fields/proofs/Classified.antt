@@ -11,8 +11,8 @@ use Rattle.model.specs.declared.Kind.{Kind}
 use Rattle.model.specs.declared.Kind.the-variants.{Subgraph, Translation}
 use Rattle.model.specs.Bytes.{Bytes, isEmpty, split}
 use Rattle.model.specs.Record.{Pair, GraphName, withName}
-use Rattle.model.specs.Reading.{orWrong, twoParts, oneName, isTyped, typedField, gafLine}
-use Rattle.fields.specs.Fields.{Field, apply, addTo, relatedBy, oneNamed, bad, nothing, named, classifyString, classifyTyped, classifyGaf}
+use Rattle.model.specs.Reading.{orWrong, twoParts, addTo, oneName, isTyped, typedField, gafLine}
+use Rattle.fields.specs.Fields.{Field, apply, relatedBy, oneNamed, bad, nothing, named, classifyString, classifyTyped, classifyGaf}
 use Rattle.fields.specs.Contents.{typeOf}
 use Rattle.fields.specs.declared.field.Typed.{Typed}
 use Rattle.fields.specs.declared.field.Typed.the-variants.{Bad, String, Other}
@@ -24,10 +24,8 @@ module _ (g : GraphName) where
 
   -- a relation of either kind, whatever its separator: also that of a tag
   pub relation-classified : (k : Kind) (n : ℕ) (p : Option Pair) → orWrong n (addTo k g p) ≡ apply g (relatedBy k n p)
-  relation-classified Subgraph n none = refl
-  relation-classified Subgraph n (some p) = refl
-  relation-classified Translation n none = refl
-  relation-classified Translation n (some p) = refl
+  relation-classified k n none = refl
+  relation-classified k n (some p) = refl
 
   name-classified : (ws : List Bytes) → orWrong 6 (oneName g ws) ≡ apply g (oneNamed ws)
   name-classified [] = refl

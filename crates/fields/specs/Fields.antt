@@ -10,7 +10,7 @@ use Rattle.model.specs.declared.Kind.the-variants.{Subgraph, Translation}
 use Rattle.model.specs.Text.{text}
 use Rattle.model.specs.Bytes.{Bytes, sameBytes, isEmpty, split}
 use Rattle.model.specs.Record.{Pair, GraphName, withName, withPair}
-use Rattle.model.specs.Reading.{Taken, took, wrong, judged, addSubgraphTo, addTranslationTo, isTyped, twoParts}
+use Rattle.model.specs.Reading.{Taken, took, wrong, judged, isTyped, twoParts}
 use Rattle.fields.specs.declared.field.Source.{Source}
 use Rattle.fields.specs.declared.field.Source.the-variants.{Header, Tag}
 
@@ -27,11 +27,6 @@ apply g (bad n) = wrong n
 apply g nothing = took g
 apply g (named n) = judged (withName n g)
 apply g (related k p) = judged (withPair k p g)
-
--- how a reading adds a pair of a kind
-abbrev pub addTo : Kind → GraphName → Option Pair → Option GraphName
-addTo Subgraph = addSubgraphTo
-addTo Translation = addTranslationTo
 
 -- a pair of a kind, or the number for its absence
 abbrev pub relatedBy : Kind → ℕ → Option Pair → Field

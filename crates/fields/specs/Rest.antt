@@ -7,8 +7,8 @@ use lib.ListN.{length, take, drop}
 use lib.Dec.{ltb}
 use Rattle.model.specs.Bytes.{Bytes, split}
 use Rattle.model.specs.Record.{GraphName}
-use Rattle.model.specs.Reading.{Reading, afterTaken, afterReading, refuse, typedFields, linesFrom, tagRelations, withoutLastEmpty}
-use Rattle.fields.specs.Fields.{apply, addTo, tagNumber}
+use Rattle.model.specs.Reading.{Reading, afterTaken, afterReading, refuse, typedFields, linesFrom, addTo, tagRelations, withoutLastEmpty}
+use Rattle.fields.specs.Fields.{apply, tagNumber}
 use Rattle.fields.specs.Contents.{fieldOf, Within}
 use Rattle.fields.specs.declared.field.Source.{Source}
 use Rattle.fields.specs.declared.field.Source.the-variants.{Header, Tag}

@@ -1,10 +1,10 @@
 -- A path question's answer, from the reply to it.
 use mathlib.Core.Path.{_≡_, refl, ap, _∙_}
 use Prim.Native.Nat.{ℕ}
-use Rattle.model.specs.Outcome.{Answer, refusal, notFound, found}
+use Rattle.model.specs.Outcome.{Answer, refusal, notFound, found, answerNumber, answerValue}
 use Rattle.search.specs.declared.Reply.{Reply}
 use Rattle.search.specs.Replies.{replyOf}
-use Rattle.graph_name.specs.Values.{answerNumber, answerValue, replyNumber, replyValue}
+use Rattle.results.specs.Replies.{replyNumber, replyValue}
 
 number-of : (a : Answer) → replyNumber (replyOf a) ≡ answerNumber a
 number-of (refusal n) = refl

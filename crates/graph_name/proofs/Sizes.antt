@@ -2,20 +2,19 @@
 use mathlib.Core.Path.{_≡_, refl, ap, _∙_}
 use mathlib.Core.Option.{Option, some, none}
 use Prim.Native.Nat.{ℕ}
-use native.Mathlib.Omega.{arith}
 use lib.ListN.{length}
 use Rattle.model.specs.Bytes.{Bytes}
 use Rattle.model.specs.Questions.{Given, refuses, gives, numberOf, valueOr, mapped}
-use Rattle.model.specs.Written.{sizeOf, Tags, TagSizes, tagSizes}
+use Rattle.model.specs.Written.{sizeWritten, Tags, TagSizes, tagSizes}
 use Rattle.export.specs.Answers.{Answers, sizeGiven}
-use Rattle.graph_name.specs.Values.{isPresent, orZero, lengthOf}
+use Rattle.model.specs.Values.{isPresent, orZero, lengthOf}
 use Rattle.export.specs.declared.answer.Written.{Written}
 
-size-number : (g : Given Bytes) → numberOf (sizeOf g) ≡ numberOf g
+size-number : (g : Given Bytes) → numberOf (sizeWritten g) ≡ numberOf g
 size-number (refuses n) = refl
 size-number (gives t) = refl
 
-size-value : (g : Given Bytes) (old : ℕ) → valueOr old (λ n. n) (sizeOf g) ≡ valueOr old length g
+size-value : (g : Given Bytes) (old : ℕ) → valueOr old (λ n. n) (sizeWritten g) ≡ valueOr old length g
 size-value (refuses n) old = refl
 size-value (gives t) old = refl
 
@@ -29,29 +28,38 @@ module _ (g : Given Bytes) (out : Bytes) (r : Written) (after : Bytes) (a : Answ
 
 -- ------------------------------------------------------------------ tags
 
-pub tags-refused : (g : Given Tags) (n : ℕ) → refuses n ≡ tagSizes g → g ≡ refuses n
-tags-refused (refuses m) n e = ap refuses (cc)
-tags-refused (gives v) n e = cc
+abbrev pub sizesOf : Tags → TagSizes
+sizesOf v = record { name = mapped length (v .name); subgraph = mapped length (v .subgraph); translation = mapped length (v .translation) }
 
-pub tags-given : (g : Given Tags) (k : TagSizes) → gives k ≡ tagSizes g
-    → (v : Tags) × (g ≡ gives v) × (k .name ≡ mapped length (v .name)) × (k .subgraph ≡ mapped length (v .subgraph)) × (k .translation ≡ mapped length (v .translation))
-tags-given (refuses m) k e = let z : _≡_ {A = ℕ} 0 1 = cc in absurd (omega arith)
-tags-given (gives v) k e =
-    let same : k ≡ record { name = mapped length (v .name); subgraph = mapped length (v .subgraph); translation = mapped length (v .translation) } = cc in
-    (v, refl, ap (λ (s : TagSizes). s .name) same, ap (λ (s : TagSizes). s .subgraph) same, ap (λ (s : TagSizes). s .translation) same)
+tags-number : (g : Given Tags) → numberOf (tagSizes g) ≡ numberOf g
+tags-number (refuses n) = refl
+tags-number (gives v) = refl
 
--- one tag's two numbers, from its size
-module _ (g : Given Tags) (v : Tags) (e : g ≡ gives v) (value : Tags → Option Bytes) (s : Option ℕ) (d : s ≡ mapped length (value v)) where
-  pub tag-present : (old x : ℕ) → x ≡ isPresent s → x ≡ valueOr old (λ (u : Tags). isPresent (value u)) g
-  tag-present old x h = h ∙ rw (d, e) (go (value v))
-    where
-      go : (o : Option Bytes) → isPresent (mapped length o) ≡ isPresent o
-      go none = refl
-      go (some t) = refl
+-- a value's two numbers, from its size
+present-same : (o : Option Bytes) → isPresent (mapped length o) ≡ isPresent o
+present-same none = refl
+present-same (some t) = refl
 
-  pub tag-length : (old x : ℕ) → x ≡ orZero (λ n. n) s → x ≡ valueOr old (λ (u : Tags). lengthOf (value u)) g
-  tag-length old x h = h ∙ rw (d, e) (go (value v))
-    where
-      go : (o : Option Bytes) → orZero (λ n. n) (mapped length o) ≡ lengthOf o
-      go none = refl
-      go (some t) = refl
+length-same : (o : Option Bytes) → orZero (λ n. n) (mapped length o) ≡ lengthOf o
+length-same none = refl
+length-same (some t) = refl
+
+-- what the writer of tags answers, handed out: of each tag both numbers
+module _ (g : Given Tags) (given : Given TagSizes) (e : given ≡ tagSizes g) where
+  pub all-number : (n : ℕ) → n ≡ numberOf given → n ≡ numberOf g
+  all-number n h = h ∙ ap numberOf e ∙ tags-number g
+
+  module _ (size : TagSizes → Option ℕ) (value : Tags → Option Bytes) (same : (v : Tags) → size (sizesOf v) ≡ mapped length (value v)) where
+    pub tag-present : (old x : ℕ) → x ≡ valueOr old (λ (s : TagSizes). isPresent (size s)) given → x ≡ valueOr old (λ (v : Tags). isPresent (value v)) g
+    tag-present old x h = h ∙ ap (valueOr old (λ (s : TagSizes). isPresent (size s))) e ∙ go g
+      where
+        go : (g : Given Tags) → valueOr old (λ (s : TagSizes). isPresent (size s)) (tagSizes g) ≡ valueOr old (λ (v : Tags). isPresent (value v)) g
+        go (refuses n) = refl
+        go (gives v) = ap isPresent (same v) ∙ present-same (value v)
+
+    pub tag-length : (old x : ℕ) → x ≡ valueOr old (λ (s : TagSizes). orZero (λ n. n) (size s)) given → x ≡ valueOr old (λ (v : Tags). lengthOf (value v)) g
+    tag-length old x h = h ∙ ap (valueOr old (λ (s : TagSizes). orZero (λ n. n) (size s))) e ∙ go g
+      where
+        go : (g : Given Tags) → valueOr old (λ (s : TagSizes). orZero (λ n. n) (size s)) (tagSizes g) ≡ valueOr old (λ (v : Tags). lengthOf (value v)) g
+        go (refuses n) = refl
+        go (gives v) = ap (orZero (λ (n : ℕ). n)) (same v) ∙ length-same (value v)

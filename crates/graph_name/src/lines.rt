@@ -2,7 +2,7 @@
 use model::Strictness;
 ghost use mathlib.Core.Path.{_≡_};
 ghost use Rattle.model.specs.Strict.{strict};
-ghost use Rattle.graph_name.specs.Values.{strictNumber};
+ghost use Rattle.model.specs.Values.{strictNumber};
 
 // 0 for a line that is fine, else one more than the number of the first faulty field.
 #[no_mangle]

@@ -1,9 +1,8 @@
 // The path questions between the graphs of two records.
-use search::Reply;
+use results::reply_out;
 ghost use mathlib.Core.Path.{_≡_};
 ghost use lib.ListN.{length};
-ghost use Rattle.model.specs.Outcome.{askSubgraph, askFull, outputAfter};
-ghost use Rattle.graph_name.specs.Values.{answerNumber, answerValue, replyNumber, replyValue};
+ghost use Rattle.model.specs.Outcome.{askSubgraph, askFull, outputAfter, answerNumber, answerValue};
 
 // Whether the first graph is a subgraph of the second; on a yes the path's bytes go to the front of the output.
 #[no_mangle]
@@ -33,22 +32,4 @@ pub extern "C" fn graph_name_translates_to<'a>(
     ensures { λ _. ⌜ now (answer .exit) ≡ answerValue (now (answer .entry)) (askFull (now (buf .entry)) (now (other .entry)) (length (now (out .entry)))) ⌝ }
 {
     reply_out(search::translates_to(buf, other, out), answer)
-}
-
-// Hands out a reply: a refusal's number, or yes or no.
-fn reply_out(reply: Reply, answer: &mut u64) -> u32
-    ensures { λ r. ⌜ r ≡ replyNumber reply ⌝ }
-    ensures { λ _. ⌜ now (answer .exit) ≡ replyValue (now (answer .entry)) reply ⌝ }
-{
-    match reply {
-        Reply::Refused(n) => n,
-        Reply::No => {
-            *answer = 0;
-            0
-        }
-        Reply::Yes => {
-            *answer = 1;
-            0
-        }
-    }
 }

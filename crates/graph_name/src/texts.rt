@@ -1,13 +1,11 @@
 // A record written as text, a refusal as the Rust's error text, and how two graphs are related.
-use export::Tag;
-use export::Written;
-use export::WrittenTags;
+use results::size_out;
+use results::tags_out;
 ghost use mathlib.Core.Path.{_≡_};
 ghost use lib.ListN.{length};
 ghost use Rattle.model.specs.Questions.{numberOf, valueOr};
-ghost use Rattle.export.specs.Answers.{sizeGiven, tagSize};
 ghost use Rattle.model.specs.Written.{gfaWritten, gafWritten, messageWritten, relationshipWritten, outputWith, tagsWritten, outputWithTag};
-ghost use Rattle.graph_name.specs.Values.{isPresent, lengthOf, orZero};
+ghost use Rattle.model.specs.Values.{isPresent, lengthOf};
 
 // The GFA header lines.
 #[no_mangle]
@@ -76,20 +74,6 @@ pub extern "C" fn graph_name_describe_relationship<'a>(
     )
 }
 
-// Hands out how many bytes were written.
-fn size_out(given: Written, written: &mut u64) -> u32
-    ensures { λ r. ⌜ r ≡ numberOf (sizeGiven given) ⌝ }
-    ensures { λ _. ⌜ now (written .exit) ≡ valueOr (now (written .entry)) (λ n. n) (sizeGiven given) ⌝ }
-{
-    match given {
-        Written::Refused(n) => n,
-        Written::Wrote(n) => {
-            *written = n as u64;
-            0
-        }
-    }
-}
-
 // The values of the three tags, each with an output of its own: whether there is one, and how many bytes were written.
 #[no_mangle]
 pub extern "C" fn graph_name_set_tags(
@@ -115,34 +99,13 @@ pub extern "C" fn graph_name_set_tags(
     ensures { λ _. ⌜ now («has_translation» .exit) ≡ valueOr (now («has_translation» .entry)) (λ v. isPresent (v .translation)) (tagsWritten (now (buf .entry)) (length (now (name .entry))) (length (now (subgraph .entry))) (length (now (translation .entry)))) ⌝ }
     ensures { λ _. ⌜ now («translation_length» .exit) ≡ valueOr (now («translation_length» .entry)) (λ v. lengthOf (v .translation)) (tagsWritten (now (buf .entry)) (length (now (name .entry))) (length (now (subgraph .entry))) (length (now (translation .entry)))) ⌝ }
 {
-    match export::set_tags(buf, name, subgraph, translation) {
-        WrittenTags::Refused(n) => n,
-        WrittenTags::Are {
-            name: n,
-            subgraph: s,
-            translation: t,
-        } => {
-            tag_out(n, has_name, name_length);
-            tag_out(s, has_subgraph, subgraph_length);
-            tag_out(t, has_translation, translation_length);
-            0
-        }
-    }
-}
-
-// Hands out one tag: whether there is one, and how many bytes its value has.
-fn tag_out(tag: Tag, has: &mut u64, size: &mut u64)
-    ensures { λ _. ⌜ now (has .exit) ≡ isPresent (tagSize tag) ⌝ }
-    ensures { λ _. ⌜ now (size .exit) ≡ orZero (λ n. n) (tagSize tag) ⌝ }
-{
-    match tag {
-        Tag::Absent => {
-            *has = 0;
-            *size = 0;
-        }
-        Tag::Size(n) => {
-            *has = 1;
-            *size = n as u64;
-        }
-    }
+    tags_out(
+        export::set_tags(buf, name, subgraph, translation),
+        has_name,
+        name_length,
+        has_subgraph,
+        subgraph_length,
+        has_translation,
+        translation_length,
+    )
 }

@@ -1,5 +1,5 @@
--- Document 01's examples marked T, as one list, with a few of layouts, strict lines and descriptions beside them, and the theorem
--- that each holds of the definitions. Assumes nothing.
+-- The examples of docs/FORMAT.md marked T, as one list, with a few of layouts, strict lines and descriptions beside them, and the theorem
+-- that all of the list holds of the definitions. Assumes nothing.
 use mathlib.Core.Path.{_≡_, refl}
 use mathlib.Core.List.{List, [], _∷_, _++_}
 use mathlib.Core.Option.{Option, some, none}
@@ -16,7 +16,8 @@ use Rattle.model.specs.Record.{Pair, GraphName, empty, comparePairs, ins
 use Rattle.model.specs.Layout.{placeOf, entries, pairPlaces, contents, encode, nameAt, pairsFrom, shown, decode}
 use Rattle.model.specs.Writing.{relationsTag, moreRelations}
 use Rattle.model.specs.Reading.{Reading, done, refused, typedField, gafLine, typedFields, lineFields, linesFrom, withoutLastEmpty, fromHeaderLines, tagRelations, tagValue, nameValue, fromTags}
-use Rattle.model.specs.Path.{Step, leavingBy, leaving, firstOf, firstPath, pathFrom, bestPath, subgraphPath, fullPath}
+use Rattle.model.specs.Path.{Step, leavingBy, leaving, firstOf, firstPath, pathFrom, bestPath, subgraphPath, fullPath, pathBytes, pathEntries, pathBodies}
+use Rattle.model.specs.Outcome.{Answer, refusal, found, askSubgraph}
 use Rattle.model.specs.Strict.{strict, strictFields, fineField, matches, after, nullable, valueOf}
 use Rattle.model.specs.Describe.{describeRelationship, legs, afterLastEmpty, stepLines, graphLines}
 
@@ -50,6 +51,7 @@ pub data Example : Type 0 where
   tagOf : List Pair → String → Example
   path : GraphName → GraphName → Option (List Step) → Example
   full : GraphName → GraphName → Option (List Step) → Example
+  roomy : GraphName → GraphName → ℕ → Answer → Example
   layout : List ℕ → String → Option GraphName → Example
   line : String → Strictness → Example
   description : GraphName → GraphName → String → String → String → Example
@@ -60,6 +62,7 @@ Holds (subgraphTag t r) = fromTags none (some (text t)) none ≡ r
 Holds (tagOf ps t) = relationsTag ps ≡ some (text t)
 Holds (path g h r) = subgraphPath g h ≡ r
 Holds (full g h r) = fullPath g h ≡ r
+Holds (roomy g h room r) = askSubgraph (encode g) (encode h) room ≡ r
 Holds (layout ns t g) = decode (buffer ns t) ≡ g
 Holds (line t r) = strict (text t) ≡ r
 Holds (description g h d e t) = describeRelationship g h (text d) (text e) ≡ text t
@@ -68,71 +71,52 @@ abbrev pub All : List Example → Type 0
 All [] = Unit {0}
 All (e ∷ es) = Holds e × All es
 
--- document 01's examples 1 to 6
-abbrev pub headers : List Example
-headers =
+-- the examples of docs/FORMAT.md marked T with its example 15, and beside them questions with and without room, a few layouts, and strict
+-- lines, the first of which is the specification's own
+abbrev pub examples : List Example
+examples =
+    -- examples 1 to 6
     header "H\tNM:Z:" (done (named (some []) [] []))
     ∷ header "@RN\t" (fault 6 1 0 4)
     ∷ header "@RN" (fault 1 1 0 0)
     ∷ header "H\t" (fault 3 1 2 0)
     ∷ header "H\tSG:i:7" (done empty)
     ∷ header "H\tSG:Z:a,b,c" (fault 4 1 2 10)
-    ∷ []
-
--- its examples 7 to 9
-abbrev pub tags : List Example
-tags =
-    subgraphTag "" (fault 9 0 0 0)
+    -- 7 to 9
+    ∷ subgraphTag "" (fault 9 0 0 0)
     ∷ subgraphTag "a,b;a,b" (done (named none (p "a" "b" ∷ []) []))
     ∷ header "@SG\ta,b\tc" (done (named none (p "a,b" "c" ∷ []) []))
     ∷ tagOf (p "a,b" "c" ∷ []) "a,b,c"
     ∷ subgraphTag "a,b,c" (fault 9 0 0 5)
-    ∷ []
-
--- its examples 10 to 13
-abbrev pub paths : List Example
-paths =
-    path (bare "A") (bare "A") (some [])
+    -- 10 to 13
+    ∷ path (bare "A") (bare "A") (some [])
+    ∷ full (bare "A") (bare "A") (some [])
     ∷ path empty empty none
+    ∷ full empty empty none
     ∷ path (named (some (text "A")) (p "A" "K" ∷ p "A" "M" ∷ p "K" "Z" ∷ p "M" "Z" ∷ []) []) (bare "Z") (some (sub "K" ∷ sub "Z" ∷ []))
     ∷ full (named (some (text "A")) (p "A" "C" ∷ p "B" "Z" ∷ []) (p "A" "B" ∷ p "C" "Z" ∷ [])) (bare "Z") (some (sub "C" ∷ tra "Z" ∷ []))
-    ∷ []
-
--- a whole record; its pairs exchanged; a name that is not used; a byte after the last body; all zeros
-abbrev pub layouts : List Example
-layouts =
-    layout (2 ∷ 2 ∷ 2 ∷ 0 ∷ 0 ∷ 1 ∷ 1 ∷ 1 ∷ 0 ∷ 1 ∷ 1 ∷ 0 ∷ []) "ab" (some (named (some (text "b")) (p "a" "b" ∷ p "b" "a" ∷ []) []))
+    -- 10 with as much room as the path's bytes need, and with a byte less
+    ∷ roomy (bare "A") (bare "A") 7 (found (1 ∷ 0 ∷ 1 ∷ 0 ∷ 2 ∷ 0 ∷ 65 ∷ []))
+    ∷ roomy (bare "A") (bare "A") 6 (refusal 17)
+    -- a whole record; its pairs exchanged; a name that is not used; a byte after the last body; all zeros
+    ∷ layout (2 ∷ 2 ∷ 2 ∷ 0 ∷ 0 ∷ 1 ∷ 1 ∷ 1 ∷ 0 ∷ 1 ∷ 1 ∷ 0 ∷ []) "ab" (some (named (some (text "b")) (p "a" "b" ∷ p "b" "a" ∷ []) []))
     ∷ layout (2 ∷ 2 ∷ 2 ∷ 0 ∷ 0 ∷ 1 ∷ 1 ∷ 1 ∷ 1 ∷ 0 ∷ 0 ∷ 1 ∷ []) "ab" none
     ∷ layout (2 ∷ 2 ∷ 0 ∷ 0 ∷ 0 ∷ 1 ∷ 1 ∷ 1 ∷ []) "ab" none
     ∷ layout (1 ∷ 1 ∷ 0 ∷ 0 ∷ 0 ∷ 1 ∷ []) "ab" none
     ∷ layout [] "" (some empty)
-    ∷ []
-
--- strict lines, the first the specification's own
-abbrev pub lines : List Example
-lines =
-    line "H\tVN:Z:1.0" Fine
+    -- strict lines
+    ∷ line "H\tVN:Z:1.0" Fine
     ∷ line "H" Fine
     ∷ line "H\tab:f:-1.5e+3\tcd:B:c,1,-2,+.5" Fine
     ∷ line "H\tab:f:1.\tcd:i:1" (Faulty 1)
     ∷ line "H\tab:i:1\tab:i:2" (Faulty 2)
     ∷ line "S\tab:i:1" (Faulty 0)
-    ∷ []
-
--- document 01's example 15
-abbrev pub descriptions : List Example
-descriptions =
-    description (named (some (text "A")) (p "A" "B" ∷ []) []) (bare "B") "p" "q"
+    -- 15
+    ∷ description (named (some (text "A")) (p "A" "B" ∷ []) []) (bare "B") "p" "q"
     "Name 1 is for p\nGraph 1 is a subgraph of graph 2\nName 2 is for q\nWith graph names:\n1\tA\n2\tA\n"
     ∷ []
 
-pub examples-hold : All headers × All tags × All paths × All layouts × All lines × All descriptions
-unfolding fromHeaderLines linesFrom withoutLastEmpty lineFields typedFields typedField gafLine split sameBytes compareBytes compareNumbers judge names insertAll insert comparePairs fromTags nameValue tagValue tagRelations relationsTag moreRelations subgraphPath fullPath bestPath pathFrom firstPath firstOf leaving leavingBy describeRelationship decimal digits legs afterLastEmpty stepLines graphLines strict strictFields fineField matches after nullable valueOf le16s decode isValid ascends shown pairsFrom nameAt encode contents entries pairPlaces placeOf
-examples-hold = (
-  (refl, (refl, (refl, (refl, (refl, (refl, tt)))))),
-  (refl, (refl, (refl, (refl, (refl, tt))))),
-  (refl, (refl, (refl, (refl, tt)))),
-  (refl, (refl, (refl, (refl, (refl, tt))))),
-  (refl, (refl, (refl, (refl, (refl, (refl, tt)))))),
-  (refl, tt),
-)
+pub examples-hold : All examples
+unfolding fromHeaderLines linesFrom withoutLastEmpty lineFields typedFields typedField gafLine split sameBytes compareBytes compareNumbers judge names insertAll insert comparePairs fromTags nameValue tagValue tagRelations relationsTag moreRelations subgraphPath fullPath bestPath pathFrom firstPath firstOf leaving leavingBy describeRelationship decimal digits legs afterLastEmpty stepLines graphLines strict strictFields fineField matches after nullable valueOf le16s askSubgraph pathBytes pathEntries pathBodies decode isValid ascends shown pairsFrom nameAt encode contents entries pairPlaces placeOf
+examples-hold =
+    (refl, (refl, (refl, (refl, (refl, (refl, (refl, (refl, (refl, (refl, (refl, (refl, (refl, (refl, (refl, (refl, (refl, (refl, (refl, (refl, (refl, (refl, (refl, (refl, (refl, (refl, (refl, (refl, (refl, (refl, (refl, tt)))))))))))))))))))))))))))))))

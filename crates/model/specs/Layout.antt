@@ -1,4 +1,4 @@
--- The record's bytes (document 01, "Added layout"). Assumes nothing.
+-- The record's bytes (docs/FORMAT.md, "Records"). Assumes nothing.
 use mathlib.Core.Bool.{cond, _&&_}
 use mathlib.Core.List.{List, [], _∷_, _++_}
 use mathlib.Core.Option.{Option, some, none}

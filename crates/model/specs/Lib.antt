@@ -12,5 +12,6 @@ pub mod Path
 pub mod Describe
 pub mod Strict
 pub mod Outcome
+pub mod Values
 pub mod Statements
 pub mod Examples

@@ -28,7 +28,7 @@ pub record Relations : Type 0 where
 unfoldable pub leaving : Relations → Bytes → List Step
 leaving r a = leavingBy Subgraph (r .subgraphs) a ++ leavingBy Translation (r .translations) a
 
--- the first path of exactly k steps from a to b, in document 01's order: by the first step, subgraph before translation, then
+-- the first path of exactly k steps from a to b, in the order of docs/FORMAT.md: by the first step, subgraph before translation, then
 -- the smaller next name
 unfoldable pub firstOf : (Bytes → Option (List Step)) → List Step → Option (List Step)
 firstOf rest [] = none

@@ -20,7 +20,7 @@ abbrev pub isSome : {A : Type 0} → Option A → Bool
 isSome none = false
 isSome (some a) = true
 
--- what is wrong with a record buffer, as document 01's number, or 0
+-- what is wrong with a record buffer, as its number (docs/FORMAT.md), or 0
 unfoldable pub faultOf : Bytes → ℕ
 faultOf b = cond (eqb (length b) recordLength) (cond (isSome (decode b)) 0 16) 15
 
@@ -39,18 +39,18 @@ abbrev pub valueOr : {A : Type 0} → ℕ → (A → ℕ) → Given A → ℕ
 valueOr old f (refuses n) = old
 valueOr old f (gives a) = f a
 
-abbrev pub decoded : {A : Type 0} → Option GraphName → (GraphName → Given A) → Given A
-decoded none f = refuses 16
-decoded (some g) f = f g
+abbrev pub ifDecoded : {A : Type 0} → Option GraphName → (GraphName → Given A) → Given A
+ifDecoded none f = refuses 16
+ifDecoded (some g) f = f g
 
 -- 15 first, then 16; of two records likewise
 unfoldable pub asked : {A : Type 0} → Bytes → (GraphName → A) → Given A
-asked b f = cond (eqb (length b) recordLength) (decoded (decode b) (λ g. gives (f g))) (refuses 15)
+asked b f = cond (eqb (length b) recordLength) (ifDecoded (decode b) (λ g. gives (f g))) (refuses 15)
 
 unfoldable pub askedBoth : {A : Type 0} → Bytes → Bytes → (GraphName → GraphName → A) → Given A
 askedBoth b c f =
     cond (eqb (length b) recordLength && eqb (length c) recordLength)
-    (decoded (decode b) (λ g. decoded (decode c) (λ h. gives (f g h))))
+    (ifDecoded (decode b) (λ g. ifDecoded (decode c) (λ h. gives (f g h))))
     (refuses 15)
 
 -- how many names and pairs

@@ -7,7 +7,9 @@ use lib.ListN.{length, take, drop, getD}
 use lib.Dec.{eqb, ltb, leb}
 use Rattle.model.specs.Text.{text}
 use Rattle.model.specs.Bytes.{Bytes, sameBytes, isEmpty, split}
-use Rattle.model.specs.Record.{Pair, GraphName, empty, withName, withSubgraph, withTranslation, judge}
+use Rattle.model.specs.declared.Kind.{Kind}
+use Rattle.model.specs.declared.Kind.the-variants.{Subgraph, Translation}
+use Rattle.model.specs.Record.{Pair, GraphName, empty, withName, withPair, judge}
 
 -- a refusal of a reading: its number, the line (from 1; 0 for tags), and the quoted part, as a place in the text
 pub record Refusal : Type 0 where
@@ -40,13 +42,10 @@ abbrev pub orWrong : ℕ → Option GraphName → Taken
 orWrong number none = wrong number
 orWrong number (some g) = judged g
 
-abbrev pub addSubgraphTo : GraphName → Option Pair → Option GraphName
-addSubgraphTo g none = none
-addSubgraphTo g (some p) = some (withSubgraph p g)
-
-abbrev pub addTranslationTo : GraphName → Option Pair → Option GraphName
-addTranslationTo g none = none
-addTranslationTo g (some p) = some (withTranslation p g)
+-- g with a pair of a kind more, where there is one
+abbrev pub addTo : Kind → GraphName → Option Pair → Option GraphName
+addTo kind g none = none
+addTo kind g (some p) = some (withPair kind p g)
 
 abbrev pub isTyped : Bytes → Bool
 isTyped f = leb 5 (length f) && eqb (getD f 2 0) 58 && eqb (getD f 4 0) 58
@@ -57,8 +56,8 @@ typedField g f =
     cond (not (isTyped f)) (wrong 3)
     (cond (not (eqb (getD f 3 0) 90)) (took g)
     (cond (sameBytes (take 2 f) (text "NM")) (judged (withName (drop 5 f) g))
-    (cond (sameBytes (take 2 f) (text "SG")) (orWrong 4 (addSubgraphTo g (twoParts (split 44 (drop 5 f)))))
-    (cond (sameBytes (take 2 f) (text "TL")) (orWrong 5 (addTranslationTo g (twoParts (split 44 (drop 5 f)))))
+    (cond (sameBytes (take 2 f) (text "SG")) (orWrong 4 (addTo Subgraph g (twoParts (split 44 (drop 5 f)))))
+    (cond (sameBytes (take 2 f) (text "TL")) (orWrong 5 (addTo Translation g (twoParts (split 44 (drop 5 f)))))
     (took g)))))
 
 abbrev pub oneName : GraphName → List Bytes → Option GraphName
@@ -70,8 +69,8 @@ oneName g (n ∷ m ∷ ws) = none
 unfoldable pub gafLine : GraphName → Bytes → List Bytes → Taken
 gafLine g head rest =
     cond (sameBytes head (text "@RN")) (orWrong 6 (oneName g rest))
-    (cond (sameBytes head (text "@SG")) (orWrong 7 (addSubgraphTo g (twoParts rest)))
-    (cond (sameBytes head (text "@TL")) (orWrong 8 (addTranslationTo g (twoParts rest)))
+    (cond (sameBytes head (text "@SG")) (orWrong 7 (addTo Subgraph g (twoParts rest)))
+    (cond (sameBytes head (text "@TL")) (orWrong 8 (addTo Translation g (twoParts rest)))
     (took g)))
 
 abbrev pub afterTaken : Taken → (GraphName → Reading) → (ℕ → Reading) → Reading
@@ -135,4 +134,4 @@ nameValue (some v) g = afterTaken (judged (withName v g)) done (refuse 0 0 0)
 
 unfoldable pub fromTags : Option Bytes → Option Bytes → Option Bytes → Reading
 fromTags n s t =
-    afterReading (nameValue n empty) λ g. afterReading (tagValue 9 addSubgraphTo s g) (tagValue 10 addTranslationTo t)
+    afterReading (nameValue n empty) λ g. afterReading (tagValue 9 (addTo Subgraph) s g) (tagValue 10 (addTo Translation) t)

@@ -1,21 +1,29 @@
 -- The laws that the definitions must be shown to have, each as a type. Assumes nothing.
 use mathlib.Core.Path.{_≡_}
+use mathlib.Core.Bool.{true}
 use mathlib.Core.Logic.{_⊎_, _↔_, _≢_}
 use mathlib.Core.List.{List, [], _∷_, List·Memᴰ}
 use mathlib.Core.Option.{Option, some, none}
-use Prim.Native.Nat.{ℕ, _<_}
-use lib.ListN.{length}
-use Rattle.model.specs.Bytes.{Bytes, compareBytes}
+use Prim.Native.Nat.{ℕ, zero, suc, _≤_, _<_}
+use lib.ListN.{length, take, getD, replicate}
+use Rattle.model.specs.Text.{text}
+use Rattle.model.specs.Bytes.{Bytes, compareBytes, split}
 use Rattle.model.specs.declared.Order.{Order}
 use Rattle.model.specs.declared.Order.the-variants.{Less}
 use Rattle.model.specs.declared.Kind.{Kind}
 use Rattle.model.specs.declared.Kind.the-variants.{Subgraph, Translation}
+use Rattle.model.specs.declared.Strictness.{Strictness}
+use Rattle.model.specs.declared.Strictness.the-variants.{Fine, Faulty}
 use Rattle.model.specs.Record.{Pair, GraphName, comparePairs, judge, names}
-use Rattle.model.specs.Layout.{encode, decode}
+use Rattle.model.specs.Layout.{recordLength, encode, decode}
 use Rattle.model.specs.Reading.{done, fromHeaderLines, fromTags}
 use Rattle.model.specs.Writing.{toGfaHeaderLines, toGafHeaderLines, relationsTag}
 use Rattle.model.specs.Path.{Step, pathBytes}
-use Rattle.model.specs.Outcome.{Answer, refusal, notFound, found, askSubgraph, askFull}
+use Rattle.model.specs.Outcome.{Outcome, readInto, readTagsInto, refusalInto, newRecord, addSubgraph, addTranslation, addRelationships, makeSubgraphOf, addTranslationTo}
+use Rattle.model.specs.Outcome.{Answer, refusal, notFound, found, askSubgraph, askFull, outputAfter, answerNumber, answerValue}
+use Rattle.model.specs.Questions.{Given, numberOf, valueOr, countsIn, nameIn, nameAtIn, pairAtIn, isSameIn}
+use Rattle.model.specs.Written.{gfaWritten, gafWritten, messageWritten, relationshipWritten, outputWith, Tags, tagsWritten, outputWithTag}
+use Rattle.model.specs.Strict.{letter, Matches, valueOf, strict}
 
 -- ------------------------------------------------------------------ records
 
@@ -25,7 +33,7 @@ Ascending cmp [] = Unit {0}
 Ascending cmp (x ∷ []) = Unit {0}
 Ascending cmp (x ∷ y ∷ ys) = (cmp x y ≡ Less) × Ascending cmp (y ∷ ys)
 
--- a graph name within document 01's sizes
+-- a graph name within the sizes of docs/FORMAT.md
 pub record Valid (g : GraphName) : Type 0 where
   pub subgraphs : Ascending comparePairs (g .subgraph)
   pub translations : Ascending comparePairs (g .translation)
@@ -62,6 +70,78 @@ TagsReadBack =
     (g : GraphName) → Valid g → AllPairNames (λ n. (n ≢ []) × Without 44 n × Without 59 n) g
     → fromTags (g .name) (relationsTag (g .subgraph)) (relationsTag (g .translation)) ≡ done g
 
+-- ------------------------------------------------------------------ numbers and refusals (demand 1)
+
+-- an entry on a record buffer: its number is one of docs/FORMAT.md's, the buffer keeps its length, and one of the wrong size is not written
+pub record Bounded (entry : Bytes → Outcome) : Type 0 where
+  pub number : (b : Bytes) → entry b .number ≤ 18
+  pub size : (b : Bytes) → length (entry b .buffer) ≡ length b
+  pub wrong : (b : Bytes) → length b ≢ recordLength → (entry b .number ≡ 15) × (entry b .buffer ≡ b)
+
+-- a refused reading, or `new`, leaves the empty record; 15 speaks of the buffer's size alone, and then nothing is written
+pub record LeavesEmpty (entry : Bytes → Outcome) : Type 0 where
+  pub bounded : Bounded entry
+  pub refused : (b : Bytes) → entry b .number ≢ 0 → entry b .number ≢ 15 → entry b .buffer ≡ replicate recordLength 0
+  pub fifteen : (b : Bytes) → entry b .number ≡ 15 → length b ≢ recordLength
+
+-- a refused change leaves the buffer
+pub record LeavesRecord (entry : Bytes → Outcome) : Type 0 where
+  pub bounded : Bounded entry
+  pub refused : (b : Bytes) → entry b .number ≢ 0 → entry b .buffer ≡ b
+
+-- a refused question leaves every number beside the answer
+pub record LeavesNumbers {A : Type 0} (answer : Given A) : Type 0 where
+  pub number : numberOf answer ≤ 18
+  pub kept : numberOf answer ≢ 0 → (value : A → ℕ) (old : ℕ) → valueOr old value answer ≡ old
+
+-- a refused writing leaves the output as well, and a done one its length; the answer goes by the room
+pub record LeavesOutput (answer : ℕ → Given Bytes) : Type 0 where
+  pub numbers : (room : ℕ) → LeavesNumbers (answer room)
+  pub kept : (out : Bytes) → numberOf (answer (length out)) ≢ 0 → outputWith (answer (length out)) out ≡ out
+  pub size : (out : Bytes) → length (outputWith (answer (length out)) out) ≡ length out
+
+-- the same of three outputs at once, for each of them
+abbrev pub OneTagLeft : (Tags → Option Bytes) → Given Tags → Bytes → Type 0
+OneTagLeft value answer out =
+    (numberOf answer ≢ 0 → outputWithTag value answer out ≡ out) × (length (outputWithTag value answer out) ≡ length out)
+
+pub record LeavesTags (answer : ℕ → ℕ → ℕ → Given Tags) : Type 0 where
+  pub numbers : (n s t : ℕ) → LeavesNumbers (answer n s t)
+  pub name : (n s t : Bytes) → OneTagLeft (λ v. v .name) (answer (length n) (length s) (length t)) n
+  pub subgraph : (n s t : Bytes) → OneTagLeft (λ v. v .subgraph) (answer (length n) (length s) (length t)) s
+  pub translation : (n s t : Bytes) → OneTagLeft (λ v. v .translation) (answer (length n) (length s) (length t)) t
+
+-- the same of a path question
+pub record LeavesAnswer (answer : ℕ → Answer) : Type 0 where
+  pub number : (room : ℕ) → answerNumber (answer room) ≤ 18
+  pub answer-kept : (room old : ℕ) → answerNumber (answer room) ≢ 0 → answerValue old (answer room) ≡ old
+  pub kept : (out : Bytes) → answerNumber (answer (length out)) ≢ 0 → outputAfter (answer (length out)) out ≡ out
+  pub size : (out : Bytes) → length (outputAfter (answer (length out)) out) ≡ length out
+
+-- every entry that can refuse, as its contract has it: what it may write are the buffers and numbers named here, and no others. The
+-- strict reading refuses nothing
+pub record Demand1 : Type 0 where
+  pub from-header-lines : (t : Bytes) → LeavesEmpty λ b. record { number = refusalInto (fromHeaderLines t) b .number; buffer = readInto t b .buffer }
+  pub from-tags : (n s t : Option Bytes) → LeavesEmpty λ b. record { number = refusalInto (fromTags n s t) b .number; buffer = readTagsInto n s t b .buffer }
+  pub new : (n : Bytes) → LeavesEmpty (newRecord n)
+  pub add-subgraph : (from to : Bytes) → LeavesRecord (addSubgraph from to)
+  pub add-translation : (from to : Bytes) → LeavesRecord (addTranslation from to)
+  pub make-subgraph-of : (parent : Bytes) → LeavesRecord λ b. makeSubgraphOf b parent
+  pub add-translation-to : (parent : Bytes) → LeavesRecord λ b. addTranslationTo b parent
+  pub add-relationships : (other : Bytes) → LeavesRecord λ b. addRelationships b other
+  pub counts : (b : Bytes) → LeavesNumbers (countsIn b)
+  pub name : (b : Bytes) → LeavesNumbers (nameIn b)
+  pub name-at : (b : Bytes) (i : ℕ) → LeavesNumbers (nameAtIn b i)
+  pub pair-at : (k : Kind) (b : Bytes) (i : ℕ) → LeavesNumbers (pairAtIn k b i)
+  pub is-same : (b c : Bytes) → LeavesNumbers (isSameIn b c)
+  pub is-subgraph-of : (b c : Bytes) → LeavesAnswer (askSubgraph b c)
+  pub translates-to : (b c : Bytes) → LeavesAnswer (askFull b c)
+  pub to-gfa : (b : Bytes) → LeavesOutput (gfaWritten b)
+  pub to-gaf : (b : Bytes) → LeavesOutput (gafWritten b)
+  pub error-message : (number line : ℕ) (part : Bytes) → LeavesOutput (messageWritten number line part)
+  pub describe-relationship : (b c selfDesc otherDesc : Bytes) → LeavesOutput (relationshipWritten b c selfDesc otherDesc)
+  pub set-tags : (b : Bytes) → LeavesTags (tagsWritten b)
+
 -- ------------------------------------------------------------------ paths (demand 3)
 
 -- the relations that a question goes by
@@ -82,7 +162,7 @@ unfoldable pub IsPath : Relation → Bytes → List Step → Bytes → Type 0
 IsPath R a [] b = a ≡ b
 IsPath R a (s ∷ ss) b = R (s .kind) a (s .next) × IsPath R (s .next) ss b
 
--- document 01's order: a subgraph step before a translation step, then the smaller next name; the first step that differs counts
+-- the order of docs/FORMAT.md: a subgraph step before a translation step, then the smaller next name; the first step that differs counts
 abbrev pub KindBefore : Kind → Kind → Type 0 → Type 0
 KindBefore Subgraph Subgraph same = same
 KindBefore Subgraph Translation same = Unit {0}
@@ -106,23 +186,30 @@ abbrev pub Reachable : Relation → Option Bytes → Bytes → Type 0
 Reachable R none n = ⊥
 Reachable R (some a) n = (ss : List Step) × IsPath R a ss n
 
--- the right answer: yes, with the bytes of the best path, exactly where both graphs are named and there is a path
-abbrev pub RightBetween : Relation → Bytes → Bytes → Answer → Type 0
-RightBetween R a b (refusal n) = ⊥
-RightBetween R a b notFound = (ss : List Step) → IsPath R a ss b → ⊥
-RightBetween R a b (found bytes) = (ss : List Step) × Best R a ss b × (bytes ≡ pathBytes a ss)
+-- the right answer: yes, with the bytes of the best path, where both graphs are named, there is a path and its bytes fit the room; 17
+-- where they do not fit; no where there is no path; and no other refusal
+abbrev pub RightBetween : Relation → Bytes → Bytes → ℕ → Answer → Type 0
+RightBetween R a b room (refusal n) = (n ≡ 17) × ((ss : List Step) × Best R a ss b × (room < length (pathBytes a ss)))
+RightBetween R a b room notFound = (ss : List Step) → IsPath R a ss b → ⊥
+RightBetween R a b room (found bytes) = (ss : List Step) × Best R a ss b × (bytes ≡ pathBytes a ss) × (length bytes ≤ room)
 
-abbrev pub Right : Relation → Option Bytes → Option Bytes → Answer → Type 0
-Right R none b r = r ≡ notFound
-Right R (some a) none r = r ≡ notFound
-Right R (some a) (some b) r = RightBetween R a b r
+abbrev pub Right : Relation → Option Bytes → Option Bytes → ℕ → Answer → Type 0
+Right R none b room r = r ≡ notFound
+Right R (some a) none room r = r ≡ notFound
+Right R (some a) (some b) room r = RightBetween R a b room r
+
+-- the bytes of the best path, where there is one, fit the room
+abbrev pub HasRoom : Relation → Option Bytes → Option Bytes → ℕ → Type 0
+HasRoom R none b room = Unit {0}
+HasRoom R (some a) none room = Unit {0}
+HasRoom R (some a) (some b) room = (ss : List Step) → Best R a ss b → length (pathBytes a ss) ≤ room
 
 -- one question, in its two parts: what is answered, and that nothing but the reachable relations counts
 module _ (ask : Bytes → Bytes → ℕ → Answer) (by : GraphName → GraphName → Relation) where
   abbrev pub AnswersRight : Type 0
   AnswersRight =
-      (b c : Bytes) (g h : GraphName) (room : ℕ) → decode b ≡ some g → decode c ≡ some h → (ask b c room ≢ refusal 17)
-      → Right (by g h) (g .name) (h .name) (ask b c room)
+      (b c : Bytes) (g h : GraphName) (room : ℕ) → decode b ≡ some g → decode c ≡ some h
+      → Right (by g h) (g .name) (h .name) room (ask b c room)
 
   abbrev pub Local : Type 0
   Local =
@@ -130,7 +217,7 @@ module _ (ask : Bytes → Bytes → ℕ → Answer) (by : GraphName → GraphNam
       → decode b ≡ some g → decode c ≡ some h → decode b′ ≡ some g′ → decode c′ ≡ some h′
       → g .name ≡ g′ .name → h .name ≡ h′ .name
       → ((n : Bytes) → Reachable (by g h) (g .name) n → (k : Kind) (m : Bytes) → by g h k n m ↔ by g′ h′ k n m)
-      → (ask b c room ≢ refusal 17) → (ask b′ c′ room′ ≢ refusal 17)
+      → HasRoom (by g h) (g .name) (h .name) room → HasRoom (by g′ h′) (g′ .name) (h′ .name) room′
       → ask b c room ≡ ask b′ c′ room′
 
 pub record Demand3 : Type 0 where
@@ -138,3 +225,28 @@ pub record Demand3 : Type 0 where
   pub subgraph-local : Local askSubgraph bySubgraph
   pub full-right : AnswersRight askFull byEither
   pub full-local : Local askFull byEither
+
+-- ------------------------------------------------------------------ the strict reading
+
+-- a typed field: two letters, a colon, a type, a colon, and a value that the specification's expression for the type matches
+pub record TypedField (f : Bytes) : Type 0 where
+  pub first : ℕ
+  pub second : ℕ
+  pub type : ℕ
+  pub value : Bytes
+  pub parts : f ≡ first ∷ second ∷ 58 ∷ type ∷ 58 ∷ value
+  pub letters : (letter first ≡ true) × (letter second ≡ true)
+  pub matched : Matches (valueOf type) value
+
+-- field i of a line is as it should be: the first is `H`, every other a typed field with a tag that none between the two has
+abbrev pub FieldFine : List Bytes → ℕ → Type 0
+FieldFine fs zero = getD fs 0 [] ≡ text "H"
+FieldFine fs (suc i) = TypedField (getD fs (suc i) []) × ((j : ℕ) → j < i → take 2 (getD fs (suc j) []) ≢ take 2 (getD fs (suc i) []))
+
+-- fine where every field is; else the first that is not
+abbrev pub StrictOf : List Bytes → Strictness → Type 0
+StrictOf fs Fine = (i : ℕ) → i < length fs → FieldFine fs i
+StrictOf fs (Faulty n) = (n < length fs) × (FieldFine fs n → ⊥) × ((i : ℕ) → i < n → FieldFine fs i)
+
+abbrev pub StrictRight : Type 0
+StrictRight = (line : Bytes) → StrictOf (split 9 line) (strict line)

@@ -36,9 +36,9 @@ relationshipWritten b c selfDesc otherDesc room =
     within room (withDescs selfDesc otherDesc (askedBoth b c λ g h. describeRelationship g h selfDesc otherDesc))
 
 -- how long the text is, and what the output then holds
-abbrev pub sizeOf : Given Bytes → Given ℕ
-sizeOf (refuses n) = refuses n
-sizeOf (gives t) = gives (length t)
+abbrev pub sizeWritten : Given Bytes → Given ℕ
+sizeWritten (refuses n) = refuses n
+sizeWritten (gives t) = gives (length t)
 
 abbrev pub outputWith : Given Bytes → Bytes → Bytes
 outputWith (refuses n) out = out

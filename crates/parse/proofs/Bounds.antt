@@ -1,4 +1,5 @@
--- The number of a refused reading is at most 14, and 15 with a buffer of a wrong size.
+-- What a reading gives is within the sizes of docs/FORMAT.md; the number of a refused one is at most 14, and 15 with a buffer of a wrong size.
+use mathlib.Core.Path.{_≡_, refl}
 use mathlib.Core.Bool.{Bool, true, false, cond, not, _||_}
 use mathlib.Core.List.{List, [], _∷_}
 use mathlib.Core.Option.{Option, some, none}
@@ -6,25 +7,27 @@ use Prim.Native.Nat.{ℕ, suc, _+_, _≤_}
 use native.Mathlib.Omega.{arith}
 use lib.Dec.{lit≤, eqb, ltb}
 use lib.ListN.{length, take, drop, getD}
+use borrow.Author.Tests.{eqb-true}
 use Rattle.model.specs.Text.{text}
 use Rattle.model.specs.Bytes.{Bytes, sameBytes, split}
-use Rattle.model.specs.Record.{Pair, GraphName, empty, withName, names, anyLong, bodies, judge}
+use Rattle.model.specs.Record.{Pair, GraphName, empty, insertAll, withName, names, anyLong, bodies, judge}
 use Rattle.model.specs.Outcome.{refusalOf, refusalInto}
-use Rattle.model.specs.Reading.{Reading, done, refused, Taken, took, wrong, judged, twoParts, orWrong, addSubgraphTo, addTranslationTo, isTyped, typedField, oneName, gafLine, afterTaken, afterReading, refuse, typedFields, isGafHead, lineFields, linesFrom, withoutLastEmpty, fromHeaderLines, tagRelations, tagValue, nameValue, fromTags}
+use Rattle.model.specs.declared.Kind.the-variants.{Subgraph, Translation}
+use Rattle.model.specs.Reading.{Reading, done, refused, Taken, took, wrong, judged, twoParts, orWrong, addTo, isTyped, typedField, oneName, gafLine, afterTaken, afterReading, refuse, typedFields, isGafHead, lineFields, linesFrom, withoutLastEmpty, fromHeaderLines, tagRelations, tagValue, nameValue, fromTags}
 
 abbrev pub SmallTaken : Taken → Type 0
-SmallTaken (took g) = Unit {0}
+SmallTaken (took g) = judge g ≡ 0
 SmallTaken (wrong n) = n ≤ 14
 
 abbrev pub Small : Reading → Type 0
-Small (done g) = Unit {0}
+Small (done g) = judge g ≡ 0
 Small (refused r) = r .number ≤ 14
 
 either : {A : Type 0} (P : A → Type 0) (t : Bool) (a b : A) → P a → P b → P (cond t a b)
 either P true a b p q = p
 either P false a b p q = q
 
-judge-small : (g : GraphName) → judge g ≤ 14
+pub judge-small : (g : GraphName) → judge g ≤ 14
 unfolding judge
 judge-small g =
     either (λ n. n ≤ 14) (anyLong (names g)) 11 _ (lit≤ tt)
@@ -33,82 +36,90 @@ judge-small g =
     (either (λ n. n ≤ 14) (ltb 22520 (length (bodies (names g)))) 14 0 (lit≤ tt) (lit≤ tt))))
 
 judged-small : (g : GraphName) → SmallTaken (judged g)
-judged-small g = either SmallTaken (eqb (judge g) 0) (took g) (wrong (judge g)) tt (judge-small g)
+judged-small g = go (eqb (judge g) 0) refl
+  where
+    go : (t : Bool) → eqb (judge g) 0 ≡ t → SmallTaken (cond t (took g) (wrong (judge g)))
+    go true e = eqb-true (judge g) 0 e
+    go false e = judge-small g
 
 orWrong-small : (n : ℕ) → n ≤ 14 → (o : Option GraphName) → SmallTaken (orWrong n o)
 orWrong-small n h none = h
 orWrong-small n h (some g) = judged-small g
 
-typedField-small : (g : GraphName) (f : Bytes) → SmallTaken (typedField g f)
+typedField-small : (g : GraphName) → judge g ≡ 0 → (f : Bytes) → SmallTaken (typedField g f)
 unfolding typedField
-typedField-small g f =
+typedField-small g h f =
     either SmallTaken (not (isTyped f)) (wrong 3) _ (lit≤ tt)
-    (either SmallTaken (not (eqb (getD f 3 0) 90)) (took g) _ tt
+    (either SmallTaken (not (eqb (getD f 3 0) 90)) (took g) _ h
     (either SmallTaken (sameBytes (take 2 f) (text "NM")) (judged (withName (drop 5 f) g)) _ (judged-small (withName (drop 5 f) g))
-    (either SmallTaken (sameBytes (take 2 f) (text "SG")) _ _ (orWrong-small 4 (lit≤ tt) (addSubgraphTo g (twoParts (split 44 (drop 5 f)))))
-    (either SmallTaken (sameBytes (take 2 f) (text "TL")) _ (took g) (orWrong-small 5 (lit≤ tt) (addTranslationTo g (twoParts (split 44 (drop 5 f))))) tt))))
+    (either SmallTaken (sameBytes (take 2 f) (text "SG")) _ _ (orWrong-small 4 (lit≤ tt) (addTo Subgraph g (twoParts (split 44 (drop 5 f)))))
+    (either SmallTaken (sameBytes (take 2 f) (text "TL")) _ (took g) (orWrong-small 5 (lit≤ tt) (addTo Translation g (twoParts (split 44 (drop 5 f))))) h))))
 
-gafLine-small : (g : GraphName) (head : Bytes) (rest : List Bytes) → SmallTaken (gafLine g head rest)
+gafLine-small : (g : GraphName) → judge g ≡ 0 → (head : Bytes) (rest : List Bytes) → SmallTaken (gafLine g head rest)
 unfolding gafLine
-gafLine-small g head rest =
+gafLine-small g h head rest =
     either SmallTaken (sameBytes head (text "@RN")) _ _ (orWrong-small 6 (lit≤ tt) (oneName g rest))
-    (either SmallTaken (sameBytes head (text "@SG")) _ _ (orWrong-small 7 (lit≤ tt) (addSubgraphTo g (twoParts rest)))
-    (either SmallTaken (sameBytes head (text "@TL")) _ (took g) (orWrong-small 8 (lit≤ tt) (addTranslationTo g (twoParts rest))) tt))
+    (either SmallTaken (sameBytes head (text "@SG")) _ _ (orWrong-small 7 (lit≤ tt) (addTo Subgraph g (twoParts rest)))
+    (either SmallTaken (sameBytes head (text "@TL")) _ (took g) (orWrong-small 8 (lit≤ tt) (addTo Translation g (twoParts rest))) h))
 
-taken-small : (x : Taken) (go : GraphName → Reading) (line start size : ℕ) → SmallTaken x → ((g : GraphName) → Small (go g)) → Small (afterTaken x go (refuse line start size))
-taken-small (took g) go line start size s k = k g
+taken-small : (x : Taken) (go : GraphName → Reading) (line start size : ℕ) → SmallTaken x → ((g : GraphName) → judge g ≡ 0 → Small (go g)) → Small (afterTaken x go (refuse line start size))
+taken-small (took g) go line start size s k = k g s
 taken-small (wrong n) go line start size s k = s
 
-reading-small : (x : Reading) (go : GraphName → Reading) → Small x → ((g : GraphName) → Small (go g)) → Small (afterReading x go)
-reading-small (done g) go s k = k g
+reading-small : (x : Reading) (go : GraphName → Reading) → Small x → ((g : GraphName) → judge g ≡ 0 → Small (go g)) → Small (afterReading x go)
+reading-small (done g) go s k = k g s
 reading-small (refused r) go s k = s
 
-typedFields-small : (line start : ℕ) (fs : List Bytes) (g : GraphName) → Small (typedFields line start fs g)
+typedFields-small : (line start : ℕ) (fs : List Bytes) (g : GraphName) → judge g ≡ 0 → Small (typedFields line start fs g)
 unfolding typedFields
-typedFields-small line start [] g = tt
-typedFields-small line start (f ∷ fs) g =
-    taken-small (typedField g f) (typedFields line (start + length f + 1) fs) line start (length f) (typedField-small g f) (typedFields-small line (start + length f + 1) fs)
+typedFields-small line start [] g h = h
+typedFields-small line start (f ∷ fs) g h =
+    taken-small (typedField g f) (typedFields line (start + length f + 1) fs) line start (length f) (typedField-small g h f) (typedFields-small line (start + length f + 1) fs)
 
-lineFields-small : (line start : ℕ) (whole : Bytes) (fs : List Bytes) (g : GraphName) → Small (lineFields line start whole fs g)
+lineFields-small : (line start : ℕ) (whole : Bytes) (fs : List Bytes) (g : GraphName) → judge g ≡ 0 → Small (lineFields line start whole fs g)
 unfolding lineFields
-lineFields-small line start whole [] g = lit≤ tt
-lineFields-small line start whole (head ∷ []) g = lit≤ tt
-lineFields-small line start whole (head ∷ f ∷ fs) g =
-    either Small (sameBytes head (text "H")) _ _ (typedFields-small line (start + length head + 1) (f ∷ fs) g)
-    (either Small (isGafHead head) _ _ (taken-small (gafLine g head (f ∷ fs)) done line start (length whole) (gafLine-small g head (f ∷ fs)) (λ h. tt)) (lit≤ tt))
+lineFields-small line start whole [] g h = lit≤ tt
+lineFields-small line start whole (head ∷ []) g h = lit≤ tt
+lineFields-small line start whole (head ∷ f ∷ fs) g h =
+    either Small (sameBytes head (text "H")) _ _ (typedFields-small line (start + length head + 1) (f ∷ fs) g h)
+    (either Small (isGafHead head) _ _ (taken-small (gafLine g head (f ∷ fs)) done line start (length whole) (gafLine-small g h head (f ∷ fs)) (λ g′ k. k)) (lit≤ tt))
 
-linesFrom-small : (line start : ℕ) (ls : List Bytes) (g : GraphName) → Small (linesFrom line start ls g)
+linesFrom-small : (line start : ℕ) (ls : List Bytes) (g : GraphName) → judge g ≡ 0 → Small (linesFrom line start ls g)
 unfolding linesFrom
-linesFrom-small line start [] g = tt
-linesFrom-small line start (l ∷ ls) g =
-    reading-small (lineFields line start l (split 9 l) g) (linesFrom (suc line) (start + length l + 1) ls) (lineFields-small line start l (split 9 l) g) (linesFrom-small (suc line) (start + length l + 1) ls)
+linesFrom-small line start [] g h = h
+linesFrom-small line start (l ∷ ls) g h =
+    reading-small (lineFields line start l (split 9 l) g) (linesFrom (suc line) (start + length l + 1) ls) (lineFields-small line start l (split 9 l) g h) (linesFrom-small (suc line) (start + length l + 1) ls)
+
+empty-sizes : judge empty ≡ 0
+unfolding judge names insertAll
+empty-sizes = refl
 
 pub header-small : (t : Bytes) → Small (fromHeaderLines t)
 unfolding fromHeaderLines
-header-small t = linesFrom-small 1 0 (withoutLastEmpty (split 10 t)) empty
+header-small t = linesFrom-small 1 0 (withoutLastEmpty (split 10 t)) empty empty-sizes
 
-relations-small : (n : ℕ) → n ≤ 14 → (add : GraphName → Option Pair → Option GraphName) (start : ℕ) (rs : List Bytes) (g : GraphName) → Small (tagRelations n add start rs g)
+relations-small : (n : ℕ) → n ≤ 14 → (add : GraphName → Option Pair → Option GraphName) (start : ℕ) (rs : List Bytes) (g : GraphName) → judge g ≡ 0 → Small (tagRelations n add start rs g)
 unfolding tagRelations
-relations-small n h add start [] g = tt
-relations-small n h add start (r ∷ rs) g =
+relations-small n h add start [] g k = k
+relations-small n h add start (r ∷ rs) g k =
     taken-small (orWrong n (add g (twoParts (split 44 r)))) (tagRelations n add (start + length r + 1) rs) 0 start (length r)
     (orWrong-small n h (add g (twoParts (split 44 r)))) (relations-small n h add (start + length r + 1) rs)
 
-value-small : (n : ℕ) → n ≤ 14 → (add : GraphName → Option Pair → Option GraphName) (v : Option Bytes) (g : GraphName) → Small (tagValue n add v g)
+value-small : (n : ℕ) → n ≤ 14 → (add : GraphName → Option Pair → Option GraphName) (v : Option Bytes) (g : GraphName) → judge g ≡ 0 → Small (tagValue n add v g)
 unfolding tagValue
-value-small n h add none g = tt
-value-small n h add (some v) g = relations-small n h add 0 (split 59 v) g
+value-small n h add none g k = k
+value-small n h add (some v) g k = relations-small n h add 0 (split 59 v) g k
 
-name-small : (v : Option Bytes) (g : GraphName) → Small (nameValue v g)
+name-small : (v : Option Bytes) (g : GraphName) → judge g ≡ 0 → Small (nameValue v g)
 unfolding nameValue
-name-small none g = tt
-name-small (some v) g = taken-small (judged (withName v g)) done 0 0 0 (judged-small (withName v g)) (λ h. tt)
+name-small none g h = h
+name-small (some v) g h = taken-small (judged (withName v g)) done 0 0 0 (judged-small (withName v g)) (λ g′ k. k)
 
 pub tags-small : (n s t : Option Bytes) → Small (fromTags n s t)
 unfolding fromTags
 tags-small n s t =
-    reading-small (nameValue n empty) _ (name-small n empty)
-    (λ g. reading-small (tagValue 9 addSubgraphTo s g) (tagValue 10 addTranslationTo t) (value-small 9 (lit≤ tt) addSubgraphTo s g) (value-small 10 (lit≤ tt) addTranslationTo t))
+    reading-small (nameValue n empty) _ (name-small n empty empty-sizes)
+    (λ g h. reading-small (tagValue 9 (addTo Subgraph) s g) (tagValue 10 (addTo Translation) t) (value-small 9 (lit≤ tt) (addTo Subgraph) s g h) (value-small 10 (lit≤ tt) (addTo Translation) t))
 
 pub into-small : (r : Reading) (buffer : Bytes) → Small r → refusalInto r buffer .number ≤ 15
 into-small r buffer s = go (eqb (length buffer) 32768) r s

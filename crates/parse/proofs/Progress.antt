@@ -143,7 +143,7 @@ module _ (refs subs trans : List ℕ) (pool own : Bytes) (sizes : Sizes) (n : �
 
   -- ------------------------------------------------------------------ a pair
 
-  -- what is in use is within document 01's sizes, also with the own name
+  -- what is in use is within the sizes of docs/FORMAT.md, also with the own name
   pub in-use : (sizes .names ≤ 512) × (sizes .bytes ≤ 22520) × (sizes .subgraph ≤ 1024) × (sizes .translation ≤ 1024)
   in-use =
       let good = h .held .good in

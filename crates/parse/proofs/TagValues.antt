@@ -8,7 +8,7 @@ use Rattle.model.specs.declared.Kind.{Kind}
 use Rattle.model.specs.declared.Kind.the-variants.{Subgraph, Translation}
 use Rattle.model.specs.Bytes.{Bytes}
 use Rattle.model.specs.Record.{GraphName, empty, withName}
-use Rattle.model.specs.Reading.{judged, Reading, done, refused, afterReading, nameValue, tagValue, fromTags}
+use Rattle.model.specs.Reading.{judged, Reading, done, refused, afterReading, nameValue, addTo, tagValue, fromTags}
 use Rattle.tables.specs.declared.putting.Sizes.{Sizes}
 use Rattle.tables.specs.Tables.{Tables}
 use Rattle.parse.specs.declared.taking.State.{State}
@@ -17,10 +17,10 @@ use Rattle.parse.specs.declared.taking.FieldTaken.the-variants.{Took, Wr
 use Rattle.parse.specs.declared.reading.Ended.{Ended}
 use Rattle.parse.specs.declared.reading.Ended.the-variants.{Done, Refused}
 use Rattle.fields.specs.declared.field.Source.the-variants.{Tag}
-use Rattle.fields.specs.Fields.{addTo, tagNumber}
+use Rattle.fields.specs.Fields.{tagNumber}
 use Rattle.fields.specs.Rest.{restOf}
 use Rattle.parse.specs.State.{graphNow, Ready, ReadyAfter, TakenAs, firstStop, readingOf, ReadyAtEnd, EndedAs}
-use Rattle.parse.specs.Answers.{given}
+use Rattle.model.specs.Values.{given}
 use Rattle.fields.proofs.Rest.{tag-start}
 
 module _ (at : Sizes → Tables) (own : Bytes) where

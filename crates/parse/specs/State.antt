@@ -59,7 +59,7 @@ pub record Held (t : Tables) (own : Bytes) (n : ℕ) : Type 0 where
   pub short : n ≤ 257
   pub lengths : Lengths (t .refs) (t .subs) (t .trans) (t .pool) own
 
--- and the sizes are within document 01's: so it is between two fields
+-- and the sizes are within those of docs/FORMAT.md: so it is between two fields
 pub record Ready (t : Tables) (own : Bytes) (n : ℕ) : Type 0 where
   pub held : Held t own n
   pub sizes : judge (graphNow t own n) ≡ 0

@@ -15,12 +15,13 @@ use fields::Content;
 use fields::Source;
 use model::Kind;
 ghost use mathlib.Core.Path.{_≡_};
-ghost use Rattle.model.specs.Reading.{afterReading, nameValue, tagValue, fromTags};
+ghost use Rattle.model.specs.Reading.{afterReading, nameValue, addTo, tagValue, fromTags};
 ghost use Rattle.model.specs.Outcome.{readTagsInto, refusalInto};
 ghost use Rattle.tables.specs.Tables.{tables};
-ghost use Rattle.fields.specs.Fields.{addTo, tagNumber};
+ghost use Rattle.fields.specs.Fields.{tagNumber};
 ghost use Rattle.parse.specs.State.{Lengths, graphNow, Ready, readingOf, ReadyAtEnd, EndedAs};
-ghost use Rattle.parse.specs.Answers.{refusalIn, given};
+ghost use Rattle.model.specs.Values.{given};
+ghost use Rattle.parse.specs.Answers.{refusalIn};
 
 // The name's tag, if it is there.
 fn read_name(

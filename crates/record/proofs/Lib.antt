@@ -16,4 +16,4 @@ pub mod Access
 pub mod Empty
 pub mod Refusals
 pub mod Parts
-pub mod Answers
+pub mod Asked

@@ -1,4 +1,3 @@
 pub mod Test
 pub mod Coded
-pub mod Answers
 pub mod Reader

@@ -6,6 +6,7 @@ use denote.Ref.{now}
 use Rattle.model.specs.Bytes.{Bytes}
 use Rattle.model.specs.Numbers.{number}
 use Rattle.record.specs.Test.{bodiesAt}
+use Rattle.record.specs.declared.layout.Head.{Head}
 use Rattle.record.specs.declared.layout.Part.{Part}
 use Rattle.record.specs.declared.reader.Reader.{Reader}
 
@@ -20,6 +21,13 @@ pub record Opened (r : Reader) : Type 0 where
   pub own : IsNumber (now (r .bytes)) 2 (r .own)
   pub subgraph : IsNumber (now (r .bytes)) 4 (r .subgraph)
   pub translation : IsNumber (now (r .bytes)) 6 (r .translation)
+
+-- h has the four numbers that b begins with
+pub record IsHead (b : Bytes) (h : Head) : Type 0 where
+  pub names : IsNumber b 0 (h .names)
+  pub own : IsNumber b 2 (h .own)
+  pub subgraph : IsNumber b 4 (h .subgraph)
+  pub translation : IsNumber b 6 (h .translation)
 
 -- p is where the body of the name at place i stands
 abbrev pub IsPart : Bytes → ℕ → Part → Type 0

@@ -1,30 +1,27 @@
-// Records: the test of a buffer, and reading one by one what a record holds.
+// Records: the test of a buffer, and where things stand in one.
 //
-// A public function of `answer` or `verdict` takes any slice of any length and equals a definition of `model/specs/Questions.antt`;
-// where its answer is an enum, `specs/Answers.antt` says what each case means. Those of `layout` and `reader` are for buffers that were
-// tested.
-mod answer;
+// The functions of `verdict` take any slice of any length. Those of `layout` and `reader` are for buffers that were tested.
 mod layout;
 mod reader;
 mod test;
 mod verdict;
 
-pub use answer::GivenBool;
-pub use answer::GivenCounts;
-pub use answer::GivenPair;
-pub use answer::GivenPart;
-pub use answer::counts;
-pub use answer::is_same;
-pub use answer::name;
-pub use answer::name_place;
-pub use answer::pair_place;
+pub use layout::Head;
 pub use layout::Part;
 pub use layout::bodies_at;
 pub use layout::name_at;
+pub use layout::name_count;
 pub use layout::name_in;
+pub use layout::own_place;
+pub use layout::pair_at;
 pub use layout::pair_count;
+pub use layout::pair_from;
+pub use layout::pair_to;
+pub use layout::part_of;
 pub use layout::table_at;
 pub use reader::Reader;
+pub use reader::head;
+pub use reader::head_at;
 pub use reader::open;
 pub use reader::part;
 pub use reader::part_at;

@@ -1,12 +1,13 @@
-// A record's reader: a buffer with its four counts. A function over it takes it apart and calls one on the slice and the numbers; other
-// modules call `part_at`, whose parameters are plain, or in a loop over many names `name_in` of `layout`.
+// A record's reader: a buffer with its four counts. A function over it takes it apart and calls one on the slice and the numbers, or gives
+// the numbers; every other function takes a plain buffer, and has the counts from `head_at`, which opens the reader once.
+use crate::layout::Head;
 use crate::layout::Part;
 use crate::layout::part_of;
 use text::read16;
 ghost use mathlib.Core.Path.{_≡_};
 ghost use Prim.Native.Nat.{_<_};
 ghost use lib.ListN.{length};
-ghost use Rattle.record.specs.Reader.{Opened, IsPart};
+ghost use Rattle.record.specs.Reader.{Opened, IsHead, IsPart};
 
 // A buffer of a record's length, and what it counts in its first eight bytes: its names; the own name, by its place counted from 1, or 0
 // for none; its pairs of each kind.
@@ -32,6 +33,19 @@ pub fn open<'a>(b: &'a [u8]) -> Reader<'a>
     }
 }
 
+// The counts alone.
+pub fn head<'a>(r: Reader<'a>) -> Head
+    requires { ⌜ Opened r ⌝ }
+    ensures { λ h. ⌜ IsHead (now (r .entry .bytes)) h ⌝ }
+{
+    Head {
+        names: r.names,
+        own: r.own,
+        subgraph: r.subgraph,
+        translation: r.translation,
+    }
+}
+
 // Where the body of the name at place i stands.
 pub fn part<'a>(r: Reader<'a>, i: usize) -> Part
     requires { ⌜ Opened r × (i < 8190) ⌝ }
@@ -40,7 +54,15 @@ pub fn part<'a>(r: Reader<'a>, i: usize) -> Part
     part_of(r.bytes, r.names, r.subgraph, r.translation, i)
 }
 
-// The same, of a plain buffer.
+// The counts of a plain buffer.
+pub fn head_at(b: &[u8]) -> Head
+    requires { ⌜ length (now b) ≡ 32768 ⌝ }
+    ensures { λ r. ⌜ IsHead (now (b .entry)) r ⌝ }
+{
+    head(open(b))
+}
+
+// Where the body of the name at place i of a plain buffer stands.
 pub fn part_at(b: &[u8], i: usize) -> Part
     requires { ⌜ (length (now b) ≡ 32768) × (i < 8190) ⌝ }
     ensures { λ r. ⌜ IsPart (now (b .entry)) i r ⌝ }

@@ -1,10 +1,10 @@
 // Whether a buffer is a record, from the tests of its parts; and the number of what is wrong with it.
+use crate::reader::head_at;
 use crate::test::all_used;
 use crate::test::body_end;
 use crate::test::names_ascend;
 use crate::test::pairs_ok;
 use crate::test::zeros_from;
-use text::read16;
 ghost use mathlib.Core.Path.{_≡_};
 ghost use Prim.Native.Nat.{_≤_};
 ghost use lib.ListN.{length};
@@ -55,10 +55,11 @@ pub fn is_record(b: &[u8]) -> bool
     if b.len() != 32768 {
         return false;
     }
-    let n = read16(b, 0);
-    let own = read16(b, 2);
-    let s = read16(b, 4);
-    let t = read16(b, 6);
+    let h = head_at(b);
+    let n = h.names;
+    let own = h.own;
+    let s = h.subgraph;
+    let t = h.translation;
     if !counts_ok(n, own, s, t) {
         return false;
     }

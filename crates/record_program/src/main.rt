@@ -1,4 +1,4 @@
-// Document 01's record program: reads header lines from standard input, at most 16,384 bytes, and prints the counts of the record and
+// The record program of docs/FORMAT.md: reads header lines from standard input, at most 16,384 bytes, and prints the counts of the record and
 // its GAF lines, or the refusal with its message line.
 use libc::STDIN_FILENO;
 

@@ -1,9 +1,9 @@
-// Document 01's record program: what comes of a text of header lines, printed. The counts of the record and its GAF lines, or the refusal
+// The record program of docs/FORMAT.md: what comes of a text of header lines, printed. The counts of the record and its GAF lines, or the refusal
 // with its message line.
+use accessors::GivenCounts;
 use export::Written;
 use libc::STDOUT_FILENO;
 use parse::Answer;
-use record::GivenCounts;
 ghost use mathlib.Core.Path.{_≡_};
 ghost use lib.ListN.{length};
 
@@ -40,7 +40,7 @@ fn print_written(written: Written, out: &[u8]) {
 
 // The counts of a record, and its GAF lines.
 fn print_record(b: &[u8]) {
-    match record::counts(b) {
+    match accessors::counts(b) {
         GivenCounts::Refused(_) => (),
         GivenCounts::Are {
             names,

@@ -7,12 +7,12 @@ use Prim.Native.Nat.{ℕ}
 use lib.Dec.{eqb}
 use borrow.Author.Tests.{eqb-true}
 use Rattle.model.specs.Bytes.{Bytes}
-use Rattle.model.specs.Strict.{Regex, empty, one, seq, alt, plus, opt, byte, oneOf, sign, digit, integer, float, nullable, after, matches}
+use Rattle.model.specs.Strict.{Regex, epsilon, one, seq, alt, plus, opt, byte, oneOf, sign, digit, integer, float, nullable, after, matches}
 use Rattle.strict.specs.Class.{isOneOf}
 use Rattle.strict.specs.Number.{signs, exponents, afterDigit, afterSign, afterNumber, next, ends, run}
 use Rattle.strict.specs.declared.number.Number.{Number}
 use Rattle.strict.specs.declared.number.Number.the-variants.{Float, Unsigned, Whole, Point, Fraction, Integer, UnsignedInteger, Digits, Refused}
-use Rattle.strict.proofs.Sequences.{none-fails, seq-seq, alt-or, seq-opt, seq-plus, seq-one, seq-oneOf, seq-run}
+use Rattle.strict.proofs.Sequences.{never-fails, seq-seq, alt-or, seq-opt, seq-plus, seq-one, seq-oneOf, seq-run}
 
 -- the parts of a number's expression
 abbrev digits : Regex
@@ -32,8 +32,8 @@ item = seq (byte 44) float
 
 -- what may follow a number: nothing, or in a list more items
 abbrev pub rest : Bool → Regex
-rest false = empty
-rest true = alt empty (seq (plus item) empty)
+rest false = epsilon
+rest true = alt epsilon (seq (plus item) epsilon)
 
 -- the test of what is left to read in a state
 abbrev pub left : Bool → Number → Bytes → Bool
@@ -94,14 +94,14 @@ module _ (list : Bool) (s : Bytes) where
   or-nothing false q = refl
 
 -- more items of a list begin with a comma
-pub items-step : (x : ℕ) (s : Bytes) → matches (seq (plus item) empty) (x ∷ s) ≡ eqb 44 x && left true Float s
-items-step x s = seq-plus item empty (x ∷ s) ∙ seq-seq (byte 44) float (rest true) (x ∷ s) ∙ seq-one (eqb 44) (seq float (rest true)) x s
+pub items-step : (x : ℕ) (s : Bytes) → matches (seq (plus item) epsilon) (x ∷ s) ≡ eqb 44 x && left true Float s
+items-step x s = seq-plus item epsilon (x ∷ s) ∙ seq-seq (byte 44) float (rest true) (x ∷ s) ∙ seq-one (eqb 44) (seq float (rest true)) x s
 
 rest-step : (list : Bool) (x : ℕ) (s : Bytes) → matches (rest list) (x ∷ s) ≡ (eqb 44 x && list) && left list Float s
 unfolding matches after
 rest-step true x s =
-    alt-or empty (seq (plus item) empty) (x ∷ s) ∙ rw (none-fails s, and-true (eqb 44 x)) (items-step x s)
-rest-step false x s = none-fails s ∙ rw (and-false (eqb 44 x))
+    alt-or epsilon (seq (plus item) epsilon) (x ∷ s) ∙ rw (never-fails s, and-true (eqb 44 x)) (items-step x s)
+rest-step false x s = never-fails s ∙ rw (and-false (eqb 44 x))
 
 module _ (list : Bool) (x : ℕ) (s : Bytes) where
   unsigned-integer-step : left list UnsignedInteger (x ∷ s) ≡ left list (next list UnsignedInteger x) s

@@ -6,7 +6,7 @@ use mathlib.Core.List.{[], _∷_, _++_, append-nil, append-assoc}
 use Prim.Native.Nat.{ℕ}
 use lib.Dec.{eqb}
 use Rattle.model.specs.Bytes.{Bytes}
-use Rattle.model.specs.Strict.{Class, Regex, none, empty, one, seq, alt, plus, opt, oneOf, Repeats, last, more, Matches, nullable, after, matches}
+use Rattle.model.specs.Strict.{Class, Regex, never, epsilon, one, seq, alt, plus, opt, oneOf, Repeats, last, more, Matches, nullable, after, matches}
 use Rattle.text.proofs.Tests.{same-tests}
 use Rattle.strict.specs.Class.{isOneOf}
 use Rattle.strict.proofs.Regex.{matches-exactly}
@@ -18,25 +18,25 @@ same-test r t s f g =
     let k = matches-exactly t s in
     same-tests (matches r s) (matches t s) (λ e. k .1 (f (h .0 e))) (λ e. h .1 (g (k .0 e)))
 
-pub none-fails : (s : Bytes) → matches none s ≡ false
+pub never-fails : (s : Bytes) → matches never s ≡ false
 unfolding matches nullable after
-none-fails [] = refl
-none-fails (x ∷ s) = none-fails s
+never-fails [] = refl
+never-fails (x ∷ s) = never-fails s
 
-seq-none : (r : Regex) (s : Bytes) → matches (seq none r) s ≡ false
+seq-never : (r : Regex) (s : Bytes) → matches (seq never r) s ≡ false
 unfolding matches nullable after
-seq-none r [] = refl
-seq-none r (x ∷ s) = seq-none r s
+seq-never r [] = refl
+seq-never r (x ∷ s) = seq-never r s
 
-seq-empty : (r : Regex) (s : Bytes) → matches (seq empty r) s ≡ matches r s
+seq-epsilon : (r : Regex) (s : Bytes) → matches (seq epsilon r) s ≡ matches r s
 unfolding Matches
-seq-empty r s =
-    same-test (seq empty r) r s (λ m. subst (Matches r) (sym (m .2 ∙ ap (λ (l : Bytes). l ++ m .1) (m .3))) (m .4)) (λ m. ([], s, refl, refl, m))
+seq-epsilon r s =
+    same-test (seq epsilon r) r s (λ m. subst (Matches r) (sym (m .2 ∙ ap (λ (l : Bytes). l ++ m .1) (m .3))) (m .4)) (λ m. ([], s, refl, refl, m))
 
-pub seq-end : (r : Regex) (s : Bytes) → matches (seq r empty) s ≡ matches r s
+pub seq-end : (r : Regex) (s : Bytes) → matches (seq r epsilon) s ≡ matches r s
 unfolding Matches
 seq-end r s =
-    same-test (seq r empty) r s
+    same-test (seq r epsilon) r s
     (λ m. subst (Matches r) (sym (m .2 ∙ ap (λ (l : Bytes). m .0 ++ l) (m .4) ∙ append-nil (m .0))) (m .3))
     (λ m. (s, [], sym (append-nil s), m, refl))
 
@@ -63,7 +63,7 @@ seq-alt p q r s =
     ∙ alt-or (seq p r) (seq q r) s
 
 pub seq-opt : (p r : Regex) (s : Bytes) → matches (seq (opt p) r) s ≡ matches (seq p r) s || matches r s
-seq-opt p r s = seq-alt p empty r s ∙ ap (λ (t : Bool). matches (seq p r) s || t) (seq-empty r s)
+seq-opt p r s = seq-alt p epsilon r s ∙ ap (λ (t : Bool). matches (seq p r) s || t) (seq-epsilon r s)
 
 -- one or more times p, then r: p once, and then r or the whole again
 pub seq-plus : (p r : Regex) (s : Bytes) → matches (seq (plus p) r) s ≡ matches (seq p (alt r (seq (plus p) r))) s
@@ -84,13 +84,13 @@ pub seq-one : (c : Class) (r : Regex) (x : ℕ) (s : Bytes) → matches (seq (on
 unfolding matches nullable after
 seq-one c r x s = go (c x)
   where
-    go : (t : Bool) → matches (seq (cond t empty none) r) s ≡ t && matches r s
-    go true = seq-empty r s
-    go false = seq-none r s
+    go : (t : Bool) → matches (seq (cond t epsilon never) r) s ≡ t && matches r s
+    go true = seq-epsilon r s
+    go false = seq-never r s
 
 -- one of some bytes, then r
 pub seq-oneOf : (bs : Bytes) (r : Regex) (x : ℕ) (s : Bytes) → matches (seq (oneOf bs) r) (x ∷ s) ≡ isOneOf bs x && matches r s
-seq-oneOf [] r x s = seq-none r (x ∷ s)
+seq-oneOf [] r x s = seq-never r (x ∷ s)
 seq-oneOf (b ∷ bs) r x s =
     seq-alt (one (eqb b)) (oneOf bs) r (x ∷ s)
     ∙ rw (seq-one (eqb b) r x s, seq-oneOf bs r x s) (sym (and-or-distrib-right (eqb b x) (isOneOf bs x) (matches r s)))

@@ -11,12 +11,12 @@ use lib.Seq.{take-all}
 use borrow.Author.Tests.{lt-ltb, le-leb, ne-eqb}
 use Rattle.model.specs.Text.{text}
 use Rattle.model.specs.Bytes.{Bytes}
-use Rattle.model.specs.Strict.{Class, Regex, none, empty, one, seq, alt, plus, oneOf, integer, float, digit, hexLetter, printable, nullable, after, matches, valueOf}
+use Rattle.model.specs.Strict.{Class, Regex, never, epsilon, one, seq, alt, plus, oneOf, integer, float, digit, hexLetter, printable, nullable, after, matches, valueOf}
 use Rattle.strict.specs.Class.{isOneOf, all}
 use Rattle.strict.specs.Number.{run}
 use Rattle.strict.specs.Value.{runClass}
 use Rattle.strict.specs.declared.number.Number.the-variants.{Float, Integer}
-use Rattle.strict.proofs.Sequences.{none-fails, seq-end, alt-or, seq-alt, seq-plus, seq-one, seq-oneOf}
+use Rattle.strict.proofs.Sequences.{never-fails, seq-end, alt-or, seq-alt, seq-plus, seq-one, seq-oneOf}
 use Rattle.strict.proofs.Numbers.{item, items-step, run-left}
 
 -- a part that goes to the end
@@ -29,7 +29,7 @@ unfolding matches nullable after
 one-byte c [] e = absurd (omega arith)
 one-byte c (x ∷ []) e = go (c x)
   where
-    go : (t : Bool) → nullable (cond t empty none) ≡ t
+    go : (t : Bool) → nullable (cond t epsilon never) ≡ t
     go true = refl
     go false = refl
 one-byte c (x ∷ y ∷ v) e = absurd (omega arith)
@@ -40,9 +40,9 @@ not-one-byte c [] n = refl
 not-one-byte c (x ∷ []) n = absurd (n refl)
 not-one-byte c (x ∷ y ∷ v) n = go (c x)
   where
-    go : (t : Bool) → matches (after y (cond t empty none)) v ≡ false
-    go true = none-fails v
-    go false = none-fails v
+    go : (t : Bool) → matches (after y (cond t epsilon never)) v ≡ false
+    go true = never-fails v
+    go false = never-fails v
 
 -- p matches one byte, of the class c, and what follows is r's
 abbrev IsByte : Regex → Class → Type 0
@@ -51,17 +51,17 @@ IsByte p c = (r : Regex) → (matches (seq p r) [] ≡ false) × ((x : ℕ) (s :
 -- one or more bytes of a class
 module _ (p : Regex) (c : Class) (byte : IsByte p c) where
   -- after one byte: the end, or more of them
-  or-more : (s : Bytes) → matches empty s || (ltb 0 (length s) && all c s) ≡ all c s
+  or-more : (s : Bytes) → matches epsilon s || (ltb 0 (length s) && all c s) ≡ all c s
   unfolding matches nullable after
   or-more [] = refl
-  or-more (x ∷ s) = rw (none-fails s, lt-ltb 0 (suc (length s)) (omega arith))
+  or-more (x ∷ s) = rw (never-fails s, lt-ltb 0 (suc (length s)) (omega arith))
 
-  from : (s : Bytes) → matches (seq (plus p) empty) s ≡ ltb 0 (length s) && all c s
-  from [] = seq-plus p empty [] ∙ byte (alt empty (seq (plus p) empty)) .0
+  from : (s : Bytes) → matches (seq (plus p) epsilon) s ≡ ltb 0 (length s) && all c s
+  from [] = seq-plus p epsilon [] ∙ byte (alt epsilon (seq (plus p) epsilon)) .0
   from (x ∷ s) =
-      seq-plus p empty (x ∷ s)
-      ∙ byte (alt empty (seq (plus p) empty)) .1 x s
-      ∙ rw (alt-or empty (seq (plus p) empty) s, from s, lt-ltb 0 (suc (length s)) (omega arith), or-more s)
+      seq-plus p epsilon (x ∷ s)
+      ∙ byte (alt epsilon (seq (plus p) epsilon)) .1 x s
+      ∙ rw (alt-or epsilon (seq (plus p) epsilon) s, from s, lt-ltb 0 (suc (length s)) (omega arith), or-more s)
 
   pub run-test : (s : Bytes) → matches (plus p) s ≡ ltb 0 (length s) && all c s
   run-test s = sym (seq-end (plus p) s) ∙ from s
@@ -121,4 +121,4 @@ no-value t v a i f r b =
       ne-eqb t 72 (λ e. r (inl e)),
       ne-eqb t 66 b,
     )
-    (none-fails v)
+    (never-fails v)

@@ -27,7 +27,7 @@ abbrev pub namesAnd : Option Bytes → List Bytes → List Bytes
 namesAnd none ns = ns
 namesAnd (some n) ns = insert compareBytes n ns
 
--- document 01's numbers 12 to 14, in their order, or 0
+-- the numbers 12 to 14 of docs/FORMAT.md, in their order, or 0
 unfoldable pub countFault : ℕ → ℕ → ℕ → ℕ → ℕ
 countFault count bytes subgraph translation =
     cond (ltb 512 count) 12 (cond (ltb 1024 subgraph || ltb 1024 translation) 13 (cond (ltb 22520 bytes) 14 0))

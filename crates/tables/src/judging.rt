@@ -1,4 +1,4 @@
-// The sizes, document 01's numbers 11 to 14, and storing what is within them.
+// The sizes, the numbers 11 to 14 of docs/FORMAT.md, and storing what is within them.
 use crate::putting::Sizes;
 use crate::putting::is_at;
 use crate::putting::name_place;

@@ -7,7 +7,7 @@ use Rattle.model.specs.Record.{GraphName}
 use Rattle.model.specs.Layout.{shown}
 use Rattle.model.specs.Questions.{gives}
 use Rattle.model.specs.Written.{within}
-use Rattle.record.proofs.Answers.{refused-asked}
+use Rattle.record.proofs.Asked.{refused-asked}
 use Rattle.export.specs.Texts.{headerLines, linesWritten}
 use Rattle.export.proofs.Lengths.{length-header}
 use Rattle.export.proofs.Opened.{opened, asked-shown}

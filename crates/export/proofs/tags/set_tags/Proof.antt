@@ -6,7 +6,7 @@ use Rattle.model.specs.Record.{GraphName}
 use Rattle.model.specs.Writing.{relationsTag}
 use Rattle.model.specs.Questions.{faultOf}
 use Rattle.model.specs.Written.{tagsOf, allWithin, tagsWritten}
-use Rattle.record.proofs.Answers.{refused-asked}
+use Rattle.record.proofs.Asked.{refused-asked}
 use Rattle.export.specs.Places.{RecordIn}
 use Rattle.export.specs.Texts.{valueSize}
 use Rattle.export.proofs.Opened.{opened, asked-shown}

@@ -2,7 +2,7 @@
 use mathlib.Core.Path.{ap, _∙_}
 use Rattle.model.specs.Reading.{Refusal, fromTags}
 use Rattle.parse.proofs.Bounds.{into-small, tags-small}
-use Rattle.graph_name.specs.Values.{flagged}
+use Rattle.model.specs.Values.{flagged}
 use borrow.Author.Needs.{needs}
 use Rattle.graph_name.proofs.readings.graph_name_from_tags.Statement.{statement}
 use Rattle.graph_name.proofs.readings.graph_name_from_tags.Tie as tie
@@ -13,9 +13,9 @@ from-tags-requires c κs = search needs
 refusal-out-requires : tie.Need-refusal-out-requires
 refusal-out-requires c κs =
     let a = c .before .before .before .before .before .before .before .before .before .before .before .args in
-    let n = flagged (a .named) (a .name .now) in
-    let s = flagged (a .within) (a .subgraph .now) in
-    let t = flagged (a .translated) (a .translation .now) in
+    let n = flagged (a .has-name) (a .name .now) in
+    let s = flagged (a .has-subgraph) (a .subgraph .now) in
+    let t = flagged (a .has-translation) (a .translation .now) in
     rw (c .before .before .before .before .before .from-tags .ensures .0) (into-small (fromTags n s t) (a .buf .now) (tags-small n s t))
 
 same-length : tie.Need-same-length

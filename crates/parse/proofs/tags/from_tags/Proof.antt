@@ -2,7 +2,7 @@
 use mathlib.Core.Path.{refl}
 use Rattle.model.specs.Reading.{fromTags}
 use Rattle.model.specs.Outcome.{readTagsInto}
-use Rattle.parse.specs.Answers.{given}
+use Rattle.model.specs.Values.{given}
 use Rattle.parse.proofs.Finished.{finished, wrong-size}
 use borrow.Author.Needs.{needs}
 use Rattle.parse.proofs.tags.from_tags.Statement.{statement}

@@ -1,7 +1,7 @@
 -- One after the other (`TagValues`).
 use mathlib.Core.Path.{_∙_}
 use Rattle.tables.specs.Tables.{tables}
-use Rattle.parse.specs.Answers.{given}
+use Rattle.model.specs.Values.{given}
 use Rattle.parse.proofs.Finished.{nothing-ready, nothing-shown}
 use Rattle.parse.proofs.TagValues.{tags-ended}
 use borrow.Author.Needs.{needs}

@@ -21,39 +21,39 @@ tested : (c : tie.After-shared-slice-known) → isRecord (c .before .args .b .no
 tested c = is-record (c .before .args .b .now) (λ i. omega (arith, c .shared-slice-known .given i))
 
 -- what is known once the four counts are read
-module _ (r : tie.After-read164) where
+module _ (r : tie.After-head-at) where
   abbrev b : Bytes
-  b = r .before .before .before .before .before .before .args .b .now
+  b = r .before .before .before .args .b .now
 
   abbrev n : ℕ
-  n = r .before .before .before .read16 .result
+  n = r .head-at .result .names
 
   abbrev own : ℕ
-  own = r .before .before .read162 .result
+  own = r .head-at .result .own
 
   abbrev s : ℕ
-  s = r .before .read163 .result
+  s = r .head-at .result .subgraph
 
   abbrev t : ℕ
-  t = r .read164 .result
+  t = r .head-at .result .translation
 
   abbrev en : n ≡ number b 0
-  en = r .before .before .before .read16 .ensures .0
+  en = r .head-at .ensures .names .0
 
   abbrev eo : own ≡ number b 2
-  eo = r .before .before .read162 .ensures .0
+  eo = r .head-at .ensures .own .0
 
   abbrev es : s ≡ number b 4
-  es = r .before .read163 .ensures .0
+  es = r .head-at .ensures .subgraph .0
 
   abbrev et : t ≡ number b 6
-  et = r .read164 .ensures .0
+  et = r .head-at .ensures .translation .0
 
   long : length b ≡ 32768
-  long = r .before .before .before .before .if1 .left
+  long = r .before .if1 .left
 
   verdict : isSome (decode b) ≡ isRecord b
-  verdict = sym (tested (r .before .before .before .before .before))
+  verdict = sym (tested (r .before .before))
 
 counts-true : (c : tie.Else2) → countsOk (n (c .before .before)) (own (c .before .before)) (s (c .before .before)) (t (c .before .before)) ≡ true
 counts-true c = sym (c .before .counts-ok .ensures) ∙ not-false (c .before .counts-ok .result) (c .if2 .left)
@@ -64,17 +64,8 @@ counts c = counted _ _ _ _ (counts-true c)
 returns : tie.Need-returns
 returns c = sym (sym (tested (c .before)) ∙ refuse-length (c .before .before .args .b .now) (c .if1 .taken))
 
-read16-requires : tie.Need-read16-requires
-read16-requires c κs = search needs
-
-read16-requires-2 : tie.Need-read16-requires-2
-read16-requires-2 c κs = search needs
-
-read16-requires-3 : tie.Need-read16-requires-3
-read16-requires-3 c κs = search needs
-
-read16-requires-4 : tie.Need-read16-requires-4
-read16-requires-4 c κs = search needs
+head-at-requires : tie.Need-head-at-requires
+head-at-requires c κs = search needs
 
 counts-ok-requires : tie.Need-counts-ok-requires
 counts-ok-requires c κs = search needs
@@ -127,10 +118,7 @@ is-record-spec =
     tie.close
     (tie.spec
     returns
-    read16-requires
-    read16-requires-2
-    read16-requires-3
-    read16-requires-4
+    head-at-requires
     counts-ok-requires
     returns-2
     body-end-requires

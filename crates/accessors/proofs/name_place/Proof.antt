@@ -1,0 +1,44 @@
+-- A refusal is the fault found; past the end there is none; else the entry tells where the name stands.
+use mathlib.Core.Path.{_≡_, sym, _∙_}
+use Rattle.model.specs.Questions.{faultOf, nameAtIn}
+use Rattle.record.proofs.Held.{Held}
+use Rattle.record.proofs.Asked.{refused-asked, fault-held}
+use Rattle.accessors.proofs.Answers.{at-absent, at-given}
+use native.Mathlib.Omega.{arith}
+use borrow.Author.Needs.{needs}
+use Rattle.accessors.proofs.name_place.Statement.{statement}
+use Rattle.accessors.proofs.name_place.Tie as tie
+
+-- with nothing wrong
+fine : (c : tie.Else1) → faultOf (c .before .before .before .args .b .now) ≡ 0
+fine c = sym (c .before .fault .ensures) ∙ c .if1 .left
+
+held : (c : tie.Else1) → Held (c .before .before .before .args .b .now)
+held c = fault-held _ (fine c)
+
+fault-requires : tie.Need-fault-requires
+fault-requires c κs = search needs
+
+returns : tie.Need-returns
+unfolding nameAtIn
+returns c = refused-asked _ _ (c .before .fault .result) (c .before .fault .ensures) (c .if1 .taken)
+
+head-at-requires : tie.Need-head-at-requires
+head-at-requires c κs = held c .long
+
+returns-2 : tie.Need-returns-2
+returns-2 c = at-absent _ (fine (c .before .before .before)) _ (rw (← c .before .before .head-at .ensures .names .0) (c .if2 .taken))
+
+part-of-requires : tie.Need-part-of-requires
+part-of-requires c κs =
+    let h = held (c .before .before .before) in
+    let n = c .before .before .head-at .ensures in
+    (h .long, n .names, n .subgraph, n .translation, omega (arith, n .names))
+
+returns-3 : tie.Need-returns-3
+returns-3 c = rw (c .part-of .ensures .0, c .part-of .ensures .1) (at-given _ (fine (c .before .before .before .before)) _ (rw (← c .before .before .before .head-at .ensures .names .0) (c .before .if2 .left)))
+
+pub name-place-spec : {M : Type 1} → statement M
+name-place-spec =
+    tie.close
+    (tie.spec fault-requires returns head-at-requires returns-2 part-of-requires returns-3)

@@ -1,0 +1,34 @@
+// What a reading answers.
+use parse::Answer;
+ghost use mathlib.Core.Path.{_≡_};
+ghost use Prim.Native.Nat.{_≤_};
+ghost use Rattle.parse.specs.Answers.{refusalIn};
+
+// Hands out what a reading answers: the number, the line and the quoted part, or all 0.
+pub fn refusal_out(answer: Answer, line: &mut u64, start: &mut u64, length: &mut u64) -> u32
+    requires { ⌜ refusalIn answer .number ≤ 15 ⌝ }
+    ensures { λ r. ⌜ r ≡ refusalIn answer .number ⌝ }
+    ensures { λ _. ⌜ now (line .exit) ≡ refusalIn answer .line ⌝ }
+    ensures { λ _. ⌜ now (start .exit) ≡ refusalIn answer .start ⌝ }
+    ensures { λ _. ⌜ now (length .exit) ≡ refusalIn answer .size ⌝ }
+{
+    match answer {
+        Answer::Done => {
+            *line = 0;
+            *start = 0;
+            *length = 0;
+            0
+        }
+        Answer::Refused {
+            number: n,
+            line: l,
+            start: s,
+            size: k,
+        } => {
+            *line = l as u64;
+            *start = s as u64;
+            *length = k as u64;
+            n as u32
+        }
+    }
+}
