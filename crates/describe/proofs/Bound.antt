@@ -17,7 +17,7 @@ use Rattle.model.specs.Statements.{Relation, byEither, IsPath, Best}
 use Rattle.record.proofs.Laws.{decoded}
 use Rattle.record.proofs.Names.{own-listed, pair-listed}
 use Rattle.record.proofs.Sizes.{judge-sizes}
-use Rattle.union.proofs.PathBytes.{length-path}
+use Rattle.path_bytes.proofs.PathBytes.{length-path}
 
 -- ------------------------------------------------------------------ lists of names by weight
 

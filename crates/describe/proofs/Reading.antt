@@ -12,7 +12,7 @@ use Rattle.model.specs.Bytes.{Bytes}
 use Rattle.model.specs.Numbers.{le16, number}
 use Rattle.model.specs.Path.{Step, kindNumber, pathEntries, pathBodies, pathBytes}
 use Rattle.model.specs.Describe.{legs}
-use Rattle.union.proofs.PathBytes.{length-path}
+use Rattle.path_bytes.proofs.PathBytes.{length-path}
 use Rattle.describe.specs.Legs.{kindOf, legsAt, PathIn, startAt, pathLegs}
 
 -- ------------------------------------------------------------------ numbers

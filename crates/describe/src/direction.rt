@@ -1,6 +1,6 @@
 // The search for a path between two graphs, one way and then the other.
-use search::Reply;
-use search::translates_to;
+use path_bytes::Reply;
+use questions::translates_to;
 ghost use mathlib.Core.Path.{_≡_};
 ghost use lib.ListN.{length};
 ghost use Rattle.describe.specs.Legs.{roomForPath};

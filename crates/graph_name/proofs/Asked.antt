@@ -2,8 +2,8 @@
 use mathlib.Core.Path.{_≡_, refl, ap, _∙_}
 use Prim.Native.Nat.{ℕ}
 use Rattle.model.specs.Outcome.{Answer, refusal, notFound, found, answerNumber, answerValue}
-use Rattle.search.specs.declared.Reply.{Reply}
-use Rattle.search.specs.Replies.{replyOf}
+use Rattle.path_bytes.specs.declared.Reply.{Reply}
+use Rattle.path_bytes.specs.Replies.{replyOf}
 use Rattle.results.specs.Replies.{replyNumber, replyValue}
 
 number-of : (a : Answer) → replyNumber (replyOf a) ≡ answerNumber a

@@ -4,7 +4,7 @@
 // definition of `model/specs`, on the arguments alone.
 mod edits;
 mod lines;
-mod questions;
+mod path_questions;
 mod readings;
 mod records;
 mod texts;
@@ -16,8 +16,8 @@ pub use edits::graph_name_add_translation_to;
 pub use edits::graph_name_make_subgraph_of;
 pub use edits::graph_name_new;
 pub use lines::graph_name_check_strict;
-pub use questions::graph_name_is_subgraph_of;
-pub use questions::graph_name_translates_to;
+pub use path_questions::graph_name_is_subgraph_of;
+pub use path_questions::graph_name_translates_to;
 pub use readings::graph_name_from_header_lines;
 pub use readings::graph_name_from_tags;
 pub use records::graph_name_counts;

@@ -1,5 +1,5 @@
 // The reply to a path question.
-use search::Reply;
+use path_bytes::Reply;
 ghost use mathlib.Core.Path.{_≡_};
 ghost use Rattle.results.specs.Replies.{replyNumber, replyValue};
 

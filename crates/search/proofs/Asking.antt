@@ -16,11 +16,11 @@ use Rattle.model.specs.Layout.{nameAt, decode}
 use Rattle.record.specs.Test.{pairCount}
 use Rattle.record.proofs.Held.{Held}
 use Rattle.record.proofs.Laws.{decode-held}
-use Rattle.search.specs.declared.Reply.{Reply}
+use Rattle.path_bytes.specs.declared.Reply.{Reply}
 use Rattle.paths.specs.Tables.{edges, Graph, graph, Holds}
 use Rattle.union.specs.Names.{naming, nameOf}
 use Rattle.union.specs.Keys.{Buildable, KindBuilt, TranslationsBuilt}
-use Rattle.search.specs.Replies.{Askable, RepliesRight}
+use Rattle.path_bytes.specs.Replies.{Askable, RepliesRight}
 use Rattle.union.specs.Numbers.{Numbered, Numberable}
 use Rattle.search.specs.Questions.{Questioned, relationsOf, RepliesTo, Named, RepliesFrom, Owned, RepliesOwn}
 use Rattle.search.specs.Room.{PairsWithin, Within}

@@ -11,10 +11,10 @@ use Rattle.model.specs.Numbers.{number}
 use Rattle.model.specs.Record.{GraphName}
 use Rattle.model.specs.Layout.{nameAt, decode}
 use Rattle.model.specs.Path.{Relations, subgraphRelations, allRelations, bestPath}
-use Rattle.model.specs.Outcome.{Answer, answered, sized, askSubgraph, askFull}
-use Rattle.search.specs.declared.Reply.{Reply}
+use Rattle.model.specs.Outcome.{answered, sized}
+use Rattle.path_bytes.specs.declared.Reply.{Reply}
 use Rattle.paths.specs.Tables.{InOrder}
-use Rattle.search.specs.Replies.{Replies}
+use Rattle.path_bytes.specs.Replies.{Replies}
 use Rattle.union.specs.Names.{Names, naming, nameOf, Readable}
 
 -- the first m places of a record have numbers below size, of the names there
@@ -71,7 +71,3 @@ pub record Owned (b c : Bytes) : Type 0 where
 -- the right reply to a question from the own name of b to that of c
 abbrev pub RepliesOwn : Bool → Bytes → Bytes → Bytes → Reply → Bytes → Type 0
 RepliesOwn full b c out r o = RepliesFrom full b c (number b 2 - 1) (number c 2 - 1) out r o
-
--- the question of either kind
-abbrev pub askOf : Bool → Bytes → Bytes → ℕ → Answer
-askOf full b c room = cond full (askFull b c room) (askSubgraph b c room)

@@ -1,5 +1,4 @@
-pub mod PathBytes
-pub mod Joined
+pub mod Named
 pub mod Numbering
 pub mod Merging
 pub mod Indexing

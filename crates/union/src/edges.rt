@@ -2,8 +2,9 @@
 use model::Kind;
 use paths::clear;
 use record::pair_count;
+use record::pair_from;
+use record::pair_to;
 use record::table_at;
-use text::read16;
 ghost use mathlib.Core.Path.{_≡_};
 ghost use Prim.Native.Nat.{ℕ, _+_, _-_, _/_, _%_, _≤_, _<_};
 ghost use lib.ListN.{length, getD, take, drop};
@@ -18,8 +19,8 @@ pub(crate) fn read_keys(b: &[u8], at: usize, numbers: &[u16], keys: &mut [u32])
 {
     let mut p = 0;
     while p < keys.len() {
-        let from = read16(b, at + 4 * p);
-        let to = read16(b, at + 4 * p + 2);
+        let from = pair_from(b, at + 4 * p);
+        let to = pair_to(b, at + 4 * p);
         keys[p] = numbers[from] as u32 * 65536 + numbers[to] as u32;
         p += 1;
     }

@@ -6,7 +6,7 @@ ghost use lib.ListN.{length};
 ghost use Rattle.union.specs.Names.{naming, nameOf, Readable};
 
 // The name of node v: a part of the first record where that holds it, else of the second.
-pub(crate) fn name_of<'a>(
+pub fn name_of<'a>(
     first: &'a [u8],
     second: &'a [u8],
     firsts: &[u16],

@@ -12,10 +12,10 @@ use borrow.Author.Needs.{needs}
 use Rattle.search.proofs.question.ask_named.Statement.{statement}
 use Rattle.search.proofs.question.ask_named.Tie as tie
 
-abbrev start : tie.After-read162 → tie.Start
+abbrev start : tie.After-name-count2 → tie.Start
 start c = c .before .before .before .before .before .before .before .before .before .before .before .before .before .before .before .before .before .before .before .before .before
 
-abbrev counting : tie.After-number-names → tie.After-read162
+abbrev counting : tie.After-number-names → tie.After-name-count2
 counting c = c .before .before .before .before .before
 
 abbrev first : tie.After-number-names → tie.Start
@@ -24,11 +24,11 @@ first n = start (counting n)
 counts : (n : tie.After-number-names) → Counted (now (first n .args .b)) (now (first n .args .c))
 counts n = counted _ _ (first n .pre .0)
 
-names-fit : (n : tie.After-number-names) → counting n .before .read16 .result + counting n .read162 .result ≤ length (now (first n .args .firsts))
-names-fit n = omega (arith, first n .pre .1 .0 .names-fit, counting n .before .read16 .ensures .0, counting n .read162 .ensures .0)
+names-fit : (n : tie.After-number-names) → counting n .before .name-count .result + counting n .name-count2 .result ≤ length (now (first n .args .firsts))
+names-fit n = omega (arith, first n .pre .1 .0 .names-fit, counting n .before .name-count .ensures .0, counting n .name-count2 .ensures .0)
 
 few : (n : tie.After-number-names) → n .number-names .result < 65536
-few n = omega (arith, n .number-names .ensures .few, counting n .before .read16 .ensures .0, counting n .read162 .ensures .0, counts n .first-few, counts n .second-few)
+few n = omega (arith, n .number-names .ensures .few, counting n .before .name-count .ensures .0, counting n .name-count2 .ensures .0, counts n .first-few, counts n .second-few)
 
 within : (n : tie.After-number-names) → n .number-names .result ≤ length (now (first n .args .firsts))
 within n = omega (arith, n .number-names .ensures .few, names-fit n)
@@ -48,10 +48,10 @@ in-firsts n = omega (arith, within n, n .number-names .kept .1 .1 .1 .1 .0)
 in-seconds : (n : tie.After-number-names) → n .number-names .result ≤ length (n .number-names .last .1 .1 .1 .1 .1 .0)
 in-seconds n = omega (arith, in-firsts n, seconds-size n)
 
-in-ones : (n : tie.After-number-names) → counting n .before .read16 .result ≤ length (n .number-names .last .1 .1 .1 .1 .1 .1 .0)
+in-ones : (n : tie.After-number-names) → counting n .before .name-count .result ≤ length (n .number-names .last .1 .1 .1 .1 .1 .1 .0)
 in-ones n = omega (arith, names-fit n, ones-size n, n .number-names .kept .1 .1 .1 .1 .0)
 
-in-twos : (n : tie.After-number-names) → counting n .read162 .result ≤ length (n .number-names .last .1 .1 .1 .1 .1 .1 .1 .0)
+in-twos : (n : tie.After-number-names) → counting n .name-count2 .result ≤ length (n .number-names .last .1 .1 .1 .1 .1 .1 .1 .0)
 in-twos n = omega (arith, names-fit n, twos-size n, n .number-names .kept .1 .1 .1 .1 .0)
 
 room : (n : tie.After-number-names) → number (now (first n .args .b)) 0 + number (now (first n .args .c)) 0 ≤ length (n .number-names .last .1 .1 .1 .1 .0)
@@ -81,35 +81,35 @@ in-kinds n = omega (arith, within n, first n .pre .1 .1 .0 .kinds-size)
 in-places : (n : tie.After-number-names) → n .number-names .result ≤ length (now (first n .args .places))
 in-places n = omega (arith, within n, first n .pre .1 .1 .0 .places-size)
 
-abbrev own-read : tie.After-read163 → tie.After-number-names
+abbrev own-read : tie.After-own-place → tie.After-number-names
 own-read c = c .before .before .before .before .before .before .before .before .before
 
-abbrev other-read : tie.After-read164 → tie.After-number-names
+abbrev other-read : tie.After-own-place2 → tie.After-number-names
 other-read c = c .before .before .before .before .before .before .before .before .before .before .before
 
-from-in : (c : tie.After-read163) → c .read163 .result - 1 < counting (own-read c) .before .read16 .result
-from-in c = omega (arith, c .read163 .ensures .0, counts (own-read c) .from, counting (own-read c) .before .read16 .ensures .0)
+from-in : (c : tie.After-own-place) → c .own-place .result - 1 < counting (own-read c) .before .name-count .result
+from-in c = omega (arith, c .own-place .ensures .0, counts (own-read c) .from, counting (own-read c) .before .name-count .ensures .0)
 
-to-in : (c : tie.After-read164) → c .read164 .result - 1 < counting (other-read c) .read162 .result
-to-in c = omega (arith, c .read164 .ensures .0, counts (other-read c) .to, counting (other-read c) .read162 .ensures .0)
+to-in : (c : tie.After-own-place2) → c .own-place2 .result - 1 < counting (other-read c) .name-count2 .result
+to-in c = omega (arith, c .own-place2 .ensures .0, counts (other-read c) .to, counting (other-read c) .name-count2 .ensures .0)
 
-read16-requires : tie.Need-read16-requires
-read16-requires c κs = let s = c .before .before .before .before .before .before .before .before .before .before .before .before .before .before .before .before .before .before .before in omega (arith, decode-held _ _ (s .pre .0 .named .first) .long)
+name-count-requires : tie.Need-name-count-requires
+name-count-requires c κs = let s = c .before .before .before .before .before .before .before .before .before .before .before .before .before .before .before .before .before .before .before in omega (arith, decode-held _ _ (s .pre .0 .named .first) .long)
 
-read16-requires-2 : tie.Need-read16-requires-2
-read16-requires-2 c κs = let s = c .before .before .before .before .before .before .before .before .before .before .before .before .before .before .before .before .before .before .before .before in omega (arith, decode-held _ _ (s .pre .0 .named .second) .long)
+name-count-requires-2 : tie.Need-name-count-requires-2
+name-count-requires-2 c κs = let s = c .before .before .before .before .before .before .before .before .before .before .before .before .before .before .before .before .before .before .before .before in omega (arith, decode-held _ _ (s .pre .0 .named .second) .long)
 
 number-names-requires : tie.Need-number-names-requires
 number-names-requires c κs =
     let r = c .before .before .before .before in
     let s = start r in
-    numberable-read _ _ (s .pre .0) _ _ (r .before .read16 .ensures .0) (r .read162 .ensures .0) _ _ _ _ (s .pre .1 .0 .names-fit) (s .pre .1 .1 .0 .seconds-size) (s .pre .1 .1 .0 .ones-size) (s .pre .1 .1 .0 .twos-size)
+    numberable-read _ _ (s .pre .0) _ _ (r .before .name-count .ensures .0) (r .name-count2 .ensures .0) _ _ _ _ (s .pre .1 .0 .names-fit) (s .pre .1 .1 .0 .seconds-size) (s .pre .1 .1 .0 .ones-size) (s .pre .1 .1 .0 .twos-size)
 
-read16-requires-3 : tie.Need-read16-requires-3
-read16-requires-3 c κs = let n = c .before .before .before .before .before .before .before .before in omega (arith, decode-held _ _ (first n .pre .0 .named .first) .long)
+own-place-requires : tie.Need-own-place-requires
+own-place-requires c κs = let n = c .before .before .before .before .before .before .before .before in omega (arith, decode-held _ _ (first n .pre .0 .named .first) .long)
 
 sub-from : tie.Need-sub-from
-sub-from c = omega (arith, c .read163 .ensures .0, first (own-read c) .pre .0 .own)
+sub-from c = omega (arith, c .own-place .ensures .0, first (own-read c) .pre .0 .own)
 
 mul-from : tie.Need-mul-from
 mul-from c = search needs
@@ -120,11 +120,11 @@ slice-read-from c = omega (arith, from-in (c .before), in-ones (own-read (c .bef
 cast-from : tie.Need-cast-from
 cast-from c = let n = own-read (c .before) in omega (arith, n .number-names .ensures .ones-in _ (from-in (c .before)) .0, few n)
 
-read16-requires-4 : tie.Need-read16-requires-4
-read16-requires-4 c κs = let n = own-read (c .before) in omega (arith, decode-held _ _ (first n .pre .0 .named .second) .long)
+own-place-requires-2 : tie.Need-own-place-requires-2
+own-place-requires-2 c κs = let n = own-read (c .before) in omega (arith, decode-held _ _ (first n .pre .0 .named .second) .long)
 
 sub-to : tie.Need-sub-to
-sub-to c = omega (arith, c .read164 .ensures .0, first (other-read c) .pre .0 .other)
+sub-to c = omega (arith, c .own-place2 .ensures .0, first (other-read c) .pre .0 .other)
 
 mul-to : tie.Need-mul-to
 mul-to c = search needs
@@ -213,8 +213,8 @@ ask-numbered-requires c κs =
     let p = q .before .before in
     let n = other-read q in
     let same = length-take-le _ _ (in-places n) in (
-      questioned-read _ _ (first n .pre .0) _ _ (counting n .before .read16 .ensures .0) (counting n .read162 .ensures .0) _ _ _ _ (room n) (seconds-size n) (ones-size n) (twos-size n) _ (n .number-names .ensures)
-          _ _ (p .read163 .ensures .0) (q .read164 .ensures .0),
+      questioned-read _ _ (first n .pre .0) _ _ (counting n .before .name-count .ensures .0) (counting n .name-count2 .ensures .0) _ _ _ _ (room n) (seconds-size n) (ones-size n) (twos-size n) _ (n .number-names .ensures)
+          _ _ (p .own-place .ensures .0) (q .own-place2 .ensures .0),
       (
         (pairs-within _ _ _ _ (first n .pre .1 .0), first n .pre .1 .1 .1),
         (
@@ -301,22 +301,22 @@ returns c =
     let q = a .before .before .before .before .before .before .before .before .before .before .before .before .before .before .before .before .before .before .before in
     let p = q .before .before in
     let n = other-read q in
-    replies-read _ _ (first n .pre .0) _ _ (counting n .before .read16 .ensures .0) (counting n .read162 .ensures .0) _ _ _ _ (room n) (seconds-size n) (ones-size n) (twos-size n) _ (n .number-names .ensures)
-    _ _ (p .read163 .ensures .0) (q .read164 .ensures .0) (first n .args .full) (now (first n .args .out)) (a .ask-numbered .last .1 .1 .1 .1 .1 .1 .1 .1 .1 .1 .1 .1 .1 .1 .1 .1 .1 .1 .1 .1 .1 .0) _ (a .ask-numbered .ensures)
+    replies-read _ _ (first n .pre .0) _ _ (counting n .before .name-count .ensures .0) (counting n .name-count2 .ensures .0) _ _ _ _ (room n) (seconds-size n) (ones-size n) (twos-size n) _ (n .number-names .ensures)
+    _ _ (p .own-place .ensures .0) (q .own-place2 .ensures .0) (first n .args .full) (now (first n .args .out)) (a .ask-numbered .last .1 .1 .1 .1 .1 .1 .1 .1 .1 .1 .1 .1 .1 .1 .1 .1 .1 .1 .1 .1 .1 .0) _ (a .ask-numbered .ensures)
 
 pub ask-named-spec : {M : Type 1} → statement M
 ask-named-spec =
     tie.close
     (tie.spec
-    read16-requires
-    read16-requires-2
+    name-count-requires
+    name-count-requires-2
     number-names-requires
-    read16-requires-3
+    own-place-requires
     sub-from
     mul-from
     slice-read-from
     cast-from
-    read16-requires-4
+    own-place-requires-2
     sub-to
     mul-to
     slice-read-to

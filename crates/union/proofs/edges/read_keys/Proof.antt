@@ -27,50 +27,47 @@ places c = start (c .before) .pre .places _ (omega (arith, c .loop-test .taken, 
 loop-holds : tie.Need-loop-holds Inv-loop μ-loop
 loop-holds c = (refl, omega arith, λ q l. absurd (omega arith))
 
-mul-read16 : tie.Need-mul-read16 Inv-loop μ-loop
-mul-read16 c = let s = start (c .before) in omega (arith, s .pre .within, s .pre .short, c .before .loop .inv .0, c .loop-test .taken)
+mul-pair-from : tie.Need-mul-pair-from Inv-loop μ-loop
+mul-pair-from c = let s = start (c .before) in omega (arith, s .pre .within, s .pre .short, c .before .loop .inv .0, c .loop-test .taken)
 
-add-read16 : tie.Need-add-read16 Inv-loop μ-loop
-add-read16 c = let s = start (c .before) in omega (arith, s .pre .within, s .pre .short, c .before .loop .inv .0, c .loop-test .taken)
+add-pair-from : tie.Need-add-pair-from Inv-loop μ-loop
+add-pair-from c = let s = start (c .before) in omega (arith, s .pre .within, s .pre .short, c .before .loop .inv .0, c .loop-test .taken)
 
-read16-requires : tie.Need-read16-requires Inv-loop μ-loop
-read16-requires c κs = let s = start (c .before) in omega (arith, s .pre .within, s .pre .short, c .before .loop .inv .0, c .loop-test .taken)
+pair-from-requires : tie.Need-pair-from-requires Inv-loop μ-loop
+pair-from-requires c κs = let s = start (c .before) in omega (arith, s .pre .within, s .pre .short, c .before .loop .inv .0, c .loop-test .taken)
 
-mul-read16-2 : tie.Need-mul-read16-2 Inv-loop μ-loop
-mul-read16-2 c = let t = c .before in let s = start (t .before) in omega (arith, s .pre .within, s .pre .short, t .before .loop .inv .0, t .loop-test .taken)
+mul-pair-to : tie.Need-mul-pair-to Inv-loop μ-loop
+mul-pair-to c = let t = c .before in let s = start (t .before) in omega (arith, s .pre .within, s .pre .short, t .before .loop .inv .0, t .loop-test .taken)
 
-add-read16-2 : tie.Need-add-read16-2 Inv-loop μ-loop
-add-read16-2 c = let t = c .before in let s = start (t .before) in omega (arith, s .pre .within, s .pre .short, t .before .loop .inv .0, t .loop-test .taken)
+add-pair-to : tie.Need-add-pair-to Inv-loop μ-loop
+add-pair-to c = let t = c .before in let s = start (t .before) in omega (arith, s .pre .within, s .pre .short, t .before .loop .inv .0, t .loop-test .taken)
 
-add-read16-3 : tie.Need-add-read16-3 Inv-loop μ-loop
-add-read16-3 c = let t = c .before in let s = start (t .before) in omega (arith, s .pre .within, s .pre .short, t .before .loop .inv .0, t .loop-test .taken)
-
-read16-requires-2 : tie.Need-read16-requires-2 Inv-loop μ-loop
-read16-requires-2 c κs = let t = c .before in let s = start (t .before) in omega (arith, s .pre .within, s .pre .short, t .before .loop .inv .0, t .loop-test .taken)
+pair-to-requires : tie.Need-pair-to-requires Inv-loop μ-loop
+pair-to-requires c κs = let t = c .before in let s = start (t .before) in omega (arith, s .pre .within, s .pre .short, t .before .loop .inv .0, t .loop-test .taken)
 
 mul-keys : tie.Need-mul-keys Inv-loop μ-loop
-mul-keys c = omega (arith, c .before .read16 .ensures .1)
+mul-keys c = omega (arith, c .before .pair-from .ensures .1)
 
 shared-slice-read-keys : tie.Need-shared-slice-read-keys Inv-loop μ-loop
-shared-slice-read-keys c = let r = c .before .before in omega (arith, places (r .before) .0, r .read16 .ensures .0)
+shared-slice-read-keys c = let r = c .before .before in omega (arith, places (r .before) .0, r .pair-from .ensures .0)
 
 cast-keys : tie.Need-cast-keys Inv-loop μ-loop
-cast-keys c = omega (arith, c .shared-slice-known3 .given (c .before .before .read16 .result))
+cast-keys c = omega (arith, c .shared-slice-known3 .given (c .before .before .pair-from .result))
 
 mul-keys-2 : tie.Need-mul-keys-2 Inv-loop μ-loop
-mul-keys-2 c = omega (arith, c .shared-slice-known3 .given (c .before .before .read16 .result))
+mul-keys-2 c = omega (arith, c .shared-slice-known3 .given (c .before .before .pair-from .result))
 
 mul-keys-3 : tie.Need-mul-keys-3 Inv-loop μ-loop
-mul-keys-3 c = omega (arith, c .before .read162 .ensures .1)
+mul-keys-3 c = omega (arith, c .before .pair-to .ensures .1)
 
 shared-slice-read-keys-2 : tie.Need-shared-slice-read-keys-2 Inv-loop μ-loop
-shared-slice-read-keys-2 c = let r = c .before .before in omega (arith, places (r .before .before) .1, r .read162 .ensures .0)
+shared-slice-read-keys-2 c = let r = c .before .before in omega (arith, places (r .before .before) .1, r .pair-to .ensures .0)
 
 cast-keys-2 : tie.Need-cast-keys-2 Inv-loop μ-loop
-cast-keys-2 c = omega (arith, c .shared-slice-known4 .given (c .before .before .read162 .result))
+cast-keys-2 c = omega (arith, c .shared-slice-known4 .given (c .before .before .pair-to .result))
 
 add-keys : tie.Need-add-keys Inv-loop μ-loop
-add-keys c = omega (arith, c .shared-slice-known4 .given (c .before .before .read162 .result), c .before .shared-slice-known3 .given (c .before .before .before .read16 .result))
+add-keys c = omega (arith, c .shared-slice-known4 .given (c .before .before .pair-to .result), c .before .shared-slice-known3 .given (c .before .before .before .pair-from .result))
 
 mul-keys-4 : tie.Need-mul-keys-4 Inv-loop μ-loop
 mul-keys-4 c = omega (arith, c .before .before .before .before .loop-test .taken, start (c .before .before .before .before .before) .pre, c .before .before .before .before .before .loop .inv .0)
@@ -90,8 +87,8 @@ loop-again c =
     let t = r .before .before in
     let l = t .before .loop in
     let a = start (t .before) .args in
-    let x = getD (now (a .numbers)) (r .before .read16 .result) 0 * 65536 + getD (now (a .numbers)) (r .read162 .result) 0 in
-    let e : x ≡ keyAt (now (a .b)) (a .at) (now (a .numbers)) (l .p) = rw (r .before .read16 .ensures .0, r .read162 .ensures .0) in (
+    let x = getD (now (a .numbers)) (r .before .pair-from .result) 0 * 65536 + getD (now (a .numbers)) (r .pair-to .result) 0 in
+    let e : x ≡ keyAt (now (a .b)) (a .at) (now (a .numbers)) (l .p) = rw (r .before .pair-from .ensures .0, r .pair-to .ensures .0) in (
       simp length-set (l .inv .0),
       simp length-set (omega (arith, t .loop-test .taken)),
       below-more (λ q. getD (set (l .keys) (l .p) x) q 0 ≡ keyAt (now (a .b)) (a .at) (now (a .numbers)) q) (l .p)
@@ -112,13 +109,12 @@ read-keys-spec =
     Inv-loop
     μ-loop
     loop-holds
-    mul-read16
-    add-read16
-    read16-requires
-    mul-read16-2
-    add-read16-2
-    add-read16-3
-    read16-requires-2
+    mul-pair-from
+    add-pair-from
+    pair-from-requires
+    mul-pair-to
+    add-pair-to
+    pair-to-requires
     mul-keys
     shared-slice-read-keys
     cast-keys

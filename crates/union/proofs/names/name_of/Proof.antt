@@ -5,7 +5,7 @@ use lib.ListN.{getD}
 use denote.Ref.{now}
 use borrow.Author.Tests.{eq-eqb, ne-eqb}
 use Rattle.union.specs.Names.{nameOf}
-use Rattle.union.proofs.PathBytes.{length-name}
+use Rattle.union.proofs.Named.{length-name}
 use native.Mathlib.Omega.{arith}
 use borrow.Author.Needs.{needs}
 use Rattle.union.proofs.names.name_of.Statement.{statement}
