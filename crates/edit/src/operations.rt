@@ -3,6 +3,7 @@
 use change::change;
 use model::Kind;
 use record::name_at;
+use record::own_place;
 use tables::Sizes;
 use tables::clear;
 use tables::put_name;
@@ -12,7 +13,6 @@ use tables::small_pool;
 use tables::store;
 use text::copy;
 use text::part;
-use text::read16;
 ghost use mathlib.Core.Path.{_≡_};
 ghost use mathlib.Core.Bool.{true};
 ghost use Prim.Native.Nat.{_-_, _≤_, _<_};
@@ -107,11 +107,11 @@ fn relate_to(kind: Kind, buffer: &mut [u8], parent: &[u8]) -> u32
     if fault != 0 {
         return fault;
     }
-    let own = read16(buffer, 2);
+    let own = own_place(buffer);
     if own == 0 {
         return 0;
     }
-    let up = read16(parent, 2);
+    let up = own_place(parent);
     if up == 0 {
         return 0;
     }
