@@ -1,9 +1,9 @@
 // The single lines of a description: how long each is, and writing it.
 use record::name_at;
+use record::own_place;
 use text::copy;
 use text::decimal_length;
 use text::put_decimal;
-use text::read16;
 ghost use mathlib.Core.Path.{_≡_};
 ghost use Prim.Native.Nat.{_+_, _≤_, _<_};
 ghost use lib.ListN.{length};
@@ -97,7 +97,7 @@ pub(crate) fn own_length(i: usize, b: &[u8]) -> usize
     requires { ⌜ (i < 65536) × Owner (now b) ⌝ }
     ensures { λ r. ⌜ (r ≡ length (graphLine i (shownName (now (b .entry))))) × (r < 65552) ⌝ }
 {
-    let own = read16(b, 2);
+    let own = own_place(b);
     if own == 0 {
         return graph_length(i, b"(no name)");
     }
@@ -109,7 +109,7 @@ pub(crate) fn put_own(out: &mut [u8], at: usize, i: usize, b: &[u8]) -> usize
     requires { ⌜ Owner (now b) × (at + length (graphLine i (shownName (now b))) ≤ length (now out)) ⌝ }
     ensures { λ r. ⌜ Wrote (now (out .entry)) at (graphLine i (shownName (now (b .entry)))) r (now (out .exit)) ⌝ }
 {
-    let own = read16(b, 2);
+    let own = own_place(b);
     if own == 0 {
         return put_graph(out, at, i, b"(no name)");
     }

@@ -9,8 +9,8 @@ use borrow.Author.Needs.{needs}
 use Rattle.describe.proofs.lines.own_length.Statement.{statement}
 use Rattle.describe.proofs.lines.own_length.Tie as tie
 
-read16-requires : tie.Need-read16-requires
-read16-requires c κs = search needs
+own-place-requires : tie.Need-own-place-requires
+own-place-requires c κs = search needs
 
 slice-aggregate-graph-length : tie.Need-slice-aggregate-graph-length
 slice-aggregate-graph-length c = search needs
@@ -22,7 +22,7 @@ returns : tie.Need-returns
 returns c =
     let k = c .before .before in
     let r = k .before in
-    rw (no-name (r .before .before .args .b .now) (r .read16 .result) (r .read16 .ensures .0) (k .if1 .taken)) (c .graph-length .ensures)
+    rw (no-name (r .before .before .args .b .now) (r .own-place .result) (r .own-place .ensures .0) (k .if1 .taken)) (c .graph-length .ensures)
 
 sub-name-at : tie.Need-sub-name-at
 sub-name-at c = search needs
@@ -34,20 +34,20 @@ graph-length-requires-2 : tie.Need-graph-length-requires-2
 graph-length-requires-2 c κs =
     let r = c .before .before in
     let s = r .before .before in
-    (s .pre .0, omega (arith, s .pre .1 .size, ap length (c .name-at .ensures), name-size (s .args .b .now) (r .read16 .result - 1)))
+    (s .pre .0, omega (arith, s .pre .1 .size, ap length (c .name-at .ensures), name-size (s .args .b .now) (r .own-place .result - 1)))
 
 returns-2 : tie.Need-returns-2
 returns-2 c =
     let d = c .before in
     let r = d .before .before in
-    rw (its-name (r .before .before .args .b .now) (r .read16 .result) (r .read16 .ensures .0) (d .name-at .result .now) (d .name-at .ensures) (d .before .if1 .left))
+    rw (its-name (r .before .before .args .b .now) (r .own-place .result) (r .own-place .ensures .0) (d .name-at .result .now) (d .name-at .ensures) (d .before .if1 .left))
     (c .graph-length2 .ensures)
 
 pub own-length-spec : {M : Type 1} → statement M
 own-length-spec =
     tie.close
     (tie.spec
-    read16-requires
+    own-place-requires
     slice-aggregate-graph-length
     graph-length-requires
     returns

@@ -9,8 +9,8 @@ use borrow.Author.Needs.{needs}
 use Rattle.describe.proofs.lines.put_own.Statement.{statement}
 use Rattle.describe.proofs.lines.put_own.Tie as tie
 
-read16-requires : tie.Need-read16-requires
-read16-requires c κs = search needs
+own-place-requires : tie.Need-own-place-requires
+own-place-requires c κs = search needs
 
 slice-aggregate-put-graph : tie.Need-slice-aggregate-put-graph
 slice-aggregate-put-graph c = search needs
@@ -20,7 +20,7 @@ put-graph-requires c κs =
     let k = c .before .before in
     let r = k .before in
     let s = r .before .before .before in
-    let e = no-name (s .args .b .now) (r .read16 .result) (r .read16 .ensures .0) (k .if1 .taken) in
+    let e = no-name (s .args .b .now) (r .own-place .result) (r .own-place .ensures .0) (k .if1 .taken) in
     omega (arith, s .pre .1, ap (λ (n : Bytes). length (graphLine (s .args .i) n)) e)
 
 same-length : tie.Need-same-length
@@ -31,7 +31,7 @@ returns c =
     let d = c .before .before in
     let k = d .before .before .before in
     let r = k .before in
-    rw (no-name (r .before .before .before .args .b .now) (r .read16 .result) (r .read16 .ensures .0) (k .if1 .taken)) (d .put-graph .ensures)
+    rw (no-name (r .before .before .before .args .b .now) (r .own-place .result) (r .own-place .ensures .0) (k .if1 .taken)) (d .put-graph .ensures)
 
 sub-name-at : tie.Need-sub-name-at
 sub-name-at c = search needs
@@ -44,7 +44,7 @@ put-graph-requires-2 c κs =
     let k = c .before .before in
     let r = k .before in
     let s = r .before .before .before in
-    let e = its-name (s .args .b .now) (r .read16 .result) (r .read16 .ensures .0) (c .name-at .result .now) (c .name-at .ensures) (k .if1 .left) in
+    let e = its-name (s .args .b .now) (r .own-place .result) (r .own-place .ensures .0) (c .name-at .result .now) (c .name-at .ensures) (k .if1 .left) in
     omega (arith, s .pre .1, ap (λ (n : Bytes). length (graphLine (s .args .i) n)) e)
 
 same-length-2 : tie.Need-same-length-2
@@ -56,14 +56,14 @@ returns-2 c =
     let n = d .before in
     let k = n .before .before in
     let r = k .before in
-    rw (its-name (r .before .before .before .args .b .now) (r .read16 .result) (r .read16 .ensures .0) (n .name-at .result .now) (n .name-at .ensures) (k .if1 .left))
+    rw (its-name (r .before .before .before .args .b .now) (r .own-place .result) (r .own-place .ensures .0) (n .name-at .result .now) (n .name-at .ensures) (k .if1 .left))
     (d .put-graph2 .ensures)
 
 pub put-own-spec : {M : Type 1} → statement M
 put-own-spec =
     tie.close
     (tie.spec
-    read16-requires
+    own-place-requires
     slice-aggregate-put-graph
     put-graph-requires
     same-length
