@@ -2,10 +2,13 @@
 use crate::answer::Written;
 use crate::pairs::pairs_length;
 use crate::pairs::put_pairs;
+use model::Kind;
 use record::name_at;
+use record::own_place;
+use record::pair_count;
+use record::table_at;
 use text::copy;
 use text::put_byte;
-use text::read16;
 ghost use mathlib.Core.Path.{_≡_};
 ghost use Prim.Native.Nat.{_+_, _≤_, _<_};
 ghost use lib.ListN.{length};
@@ -22,7 +25,7 @@ pub fn own_length(b: &[u8], beyond: usize) -> usize
     requires { ⌜ RecordIn (now b) × (beyond ≤ 16) ⌝ }
     ensures { λ r. ⌜ (r ≡ nameSize beyond (ownAt (now (b .entry)) (number (now (b .entry)) 2))) × (r < 65536) ⌝ }
 {
-    let own = read16(b, 2);
+    let own = own_place(b);
     if own == 0 {
         return 0;
     }
@@ -35,7 +38,7 @@ fn put_own(out: &mut [u8], at: usize, b: &[u8], before: &[u8]) -> usize
     requires { ⌜ RecordIn (now b) × (at + length (nameLine (now before) (ownAt (now b) (number (now b) 2))) ≤ length (now out)) ⌝ }
     ensures { λ r. ⌜ Wrote (now (out .entry)) at (nameLine (now (before .entry)) (ownAt (now (b .entry)) (number (now (b .entry)) 2))) r (now (out .exit)) ⌝ }
 {
-    let own = read16(b, 2);
+    let own = own_place(b);
     if own == 0 {
         return at;
     }
@@ -49,10 +52,10 @@ fn lines_length(b: &[u8], name: usize, pair: usize) -> usize
     requires { ⌜ RecordIn (now b) × (name ≤ 16) × (pair ≤ 16) ⌝ }
     ensures { λ r. ⌜ r ≡ headerSize name pair (shown (now (b .entry))) ⌝ }
 {
-    let first = 8 + 4 * read16(b, 0);
-    let s = read16(b, 4);
-    let second = first + 4 * s;
-    let t = read16(b, 6);
+    let first = table_at(b, Kind::Subgraph);
+    let s = pair_count(b, Kind::Subgraph);
+    let second = table_at(b, Kind::Translation);
+    let t = pair_count(b, Kind::Translation);
     own_length(b, name) + pairs_length(b, first, s, pair) + pairs_length(b, second, t, pair)
 }
 
@@ -69,10 +72,10 @@ fn put_lines(
     ensures { λ r. ⌜ Wrote (now (out .entry)) 0
         (headerLines (now (name .entry)) (now (subgraph .entry)) (now (translation .entry)) between (shown (now (b .entry)))) r (now (out .exit)) ⌝ }
 {
-    let first = 8 + 4 * read16(b, 0);
-    let s = read16(b, 4);
-    let second = first + 4 * s;
-    let t = read16(b, 6);
+    let first = table_at(b, Kind::Subgraph);
+    let s = pair_count(b, Kind::Subgraph);
+    let second = table_at(b, Kind::Translation);
+    let t = pair_count(b, Kind::Translation);
     let p = put_own(out, 0, b, name);
     let q = put_pairs(out, p, b, first, s, subgraph, between, b"\n");
     put_pairs(out, q, b, second, t, translation, between, b"\n")

@@ -1,9 +1,10 @@
 // The pairs of a record as text: lines of either format, and the relations of a tag.
 use record::bodies_at;
 use record::name_in;
+use record::pair_from;
+use record::pair_to;
 use text::copy;
 use text::put_byte;
-use text::read16;
 ghost use mathlib.Core.Path.{_≡_};
 ghost use Prim.Native.Nat.{_+_, _≤_, _<_};
 ghost use lib.ListN.{length};
@@ -21,8 +22,8 @@ pub fn pairs_length(b: &[u8], pairs: usize, count: usize, beyond: usize) -> usiz
     let mut p = pairs;
     let mut left = count;
     while 0 < left {
-        let from = name_in(b, bodies, read16(b, p));
-        let to = name_in(b, bodies, read16(b, p + 2));
+        let from = name_in(b, bodies, pair_from(b, p));
+        let to = name_in(b, bodies, pair_to(b, p));
         size += beyond + from.len() + to.len();
         p += 4;
         left -= 1;
@@ -70,8 +71,8 @@ pub fn put_pairs(
     let mut p = pairs;
     let mut left = count;
     while 0 < left {
-        let from = name_in(b, bodies, read16(b, p));
-        let to = name_in(b, bodies, read16(b, p + 2));
+        let from = name_in(b, bodies, pair_from(b, p));
+        let to = name_in(b, bodies, pair_to(b, p));
         q = put_pair(out, q, before, from, between, to, after);
         p += 4;
         left -= 1;

@@ -7,10 +7,12 @@ use crate::pairs::put_pair;
 use crate::pairs::put_pairs;
 use model::Kind;
 use record::name_at;
+use record::own_place;
 use record::pair_count;
+use record::pair_from;
+use record::pair_to;
 use record::table_at;
 use text::copy;
-use text::read16;
 ghost use mathlib.Core.Path.{_≡_};
 ghost use Prim.Native.Nat.{_≤_, _<_};
 ghost use lib.ListN.{length};
@@ -18,7 +20,6 @@ ghost use Rattle.model.specs.Numbers.{number};
 ghost use Rattle.model.specs.Layout.{ownAt, pairsFrom};
 ghost use Rattle.model.specs.Writing.{relationsTag};
 ghost use Rattle.model.specs.Written.{tagsWritten};
-ghost use Rattle.record.specs.Test.{pairCount, tableAt};
 ghost use Rattle.export.specs.Texts.{valueSize};
 ghost use Rattle.export.specs.Places.{RecordIn, PairsIn};
 ghost use Rattle.export.specs.Answers.{TagAnswers, AllAnswers};
@@ -42,8 +43,8 @@ fn put_tag(out: &mut [u8], b: &[u8], pairs: usize, count: usize) -> Tag
     if count == 0 {
         return Tag::Absent;
     }
-    let from = name_at(b, read16(b, pairs));
-    let to = name_at(b, read16(b, pairs + 2));
+    let from = name_at(b, pair_from(b, pairs));
+    let to = name_at(b, pair_to(b, pairs));
     let q = put_pair(out, 0, b"", from, 44, to, b"");
     Tag::Size(put_pairs(out, q, b, pairs + 4, count - 1, b";", 44, b""))
 }
@@ -53,7 +54,7 @@ fn put_name(out: &mut [u8], b: &[u8]) -> Tag
     requires { ⌜ RecordIn (now b) × (valueSize (ownAt (now b) (number (now b) 2)) ≤ length (now out)) ⌝ }
     ensures { λ r. ⌜ TagAnswers (ownAt (now (b .entry)) (number (now (b .entry)) 2)) (now (out .entry)) r (now (out .exit)) ⌝ }
 {
-    let own = read16(b, 2);
+    let own = own_place(b);
     if own == 0 {
         return Tag::Absent;
     }

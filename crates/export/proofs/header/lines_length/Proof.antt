@@ -4,47 +4,37 @@ use borrow.Author.Needs.{needs}
 use Rattle.export.proofs.header.lines_length.Statement.{statement}
 use Rattle.export.proofs.header.lines_length.Tie as tie
 
-read16-requires : tie.Need-read16-requires
-read16-requires c κs = search needs
+table-at-requires : tie.Need-table-at-requires
+table-at-requires c κs = search needs
 
-mul-first : tie.Need-mul-first
-mul-first c = search needs
+pair-count-requires : tie.Need-pair-count-requires
+pair-count-requires c κs = search needs
 
-add-first : tie.Need-add-first
-add-first c = search needs
+table-at-requires-2 : tie.Need-table-at-requires-2
+table-at-requires-2 c κs = search needs
 
-read16-requires-2 : tie.Need-read16-requires-2
-read16-requires-2 c κs = search needs
-
-mul-second : tie.Need-mul-second
-mul-second c = search needs
-
-add-second : tie.Need-add-second
-add-second c = search needs
-
-read16-requires-3 : tie.Need-read16-requires-3
-read16-requires-3 c κs = search needs
+pair-count-requires-2 : tie.Need-pair-count-requires-2
+pair-count-requires-2 c κs = search needs
 
 own-length-requires : tie.Need-own-length-requires
-own-length-requires c κs = let s = c .before .before .before .before in (s .pre .0, s .pre .1)
+own-length-requires c κs = let s = c .before .before .before .before .before in (s .pre .0, s .pre .1)
 
 pairs-length-requires : tie.Need-pairs-length-requires
 pairs-length-requires c κs =
-    let r4 = c .before .before in
-    let r0 = r4 .before in
-    let s = r0 .before .before in
-    (rw (r0 .read16 .ensures .0, r4 .read162 .ensures .0) (s .pre .0 .subgraph), s .pre .2)
+    let n = c .before .before .before in
+    let t = n .before in
+    let s = t .before .before in
+    (rw (t .table-at .ensures .0, n .pair-count .ensures .0) (s .pre .0 .subgraph), s .pre .2)
 
 add-result : tie.Need-add-result
 add-result c = search needs
 
 pairs-length-requires-2 : tie.Need-pairs-length-requires-2
 pairs-length-requires-2 c κs =
-    let r6 = c .before .before in
-    let r4 = r6 .before in
-    let r0 = r4 .before in
-    let s = r0 .before .before in
-    (rw (r0 .read16 .ensures .0, r4 .read162 .ensures .0, r6 .read163 .ensures .0) (s .pre .0 .translation), s .pre .2)
+    let n = c .before .before in
+    let t = n .before in
+    let s = t .before .before .before .before in
+    (rw (t .table-at2 .ensures .0, n .pair-count2 .ensures .0) (s .pre .0 .translation), s .pre .2)
 
 add-result-2 : tie.Need-add-result-2
 add-result-2 c = search needs
@@ -54,22 +44,20 @@ unfolding shown
 returns c =
     let p = c .before in
     let o = p .before in
-    let r6 = o .before in
-    let r4 = r6 .before in
-    let r0 = r4 .before in
-    rw (o .own-length .ensures .0, p .pairs-length .ensures .0, c .pairs-length2 .ensures .0, r0 .read16 .ensures .0, r4 .read162 .ensures .0, r6 .read163 .ensures .0)
+    let n2 = o .before in
+    let t2 = n2 .before in
+    let n = t2 .before in
+    let t = n .before in
+    rw (o .own-length .ensures .0, p .pairs-length .ensures .0, c .pairs-length2 .ensures .0, t .table-at .ensures .0, n .pair-count .ensures .0, t2 .table-at2 .ensures .0, n2 .pair-count2 .ensures .0)
 
 pub lines-length-spec : {M : Type 1} → statement M
 lines-length-spec =
     tie.close
     (tie.spec
-    read16-requires
-    mul-first
-    add-first
-    read16-requires-2
-    mul-second
-    add-second
-    read16-requires-3
+    table-at-requires
+    pair-count-requires
+    table-at-requires-2
+    pair-count-requires-2
     own-length-requires
     pairs-length-requires
     add-result

@@ -13,30 +13,21 @@ use borrow.Author.Needs.{needs}
 use Rattle.export.proofs.header.put_lines.Statement.{statement}
 use Rattle.export.proofs.header.put_lines.Tie as tie
 
-read16-requires : tie.Need-read16-requires
-read16-requires c κs = search needs
+table-at-requires : tie.Need-table-at-requires
+table-at-requires c κs = search needs
 
-mul-first : tie.Need-mul-first
-mul-first c = search needs
+pair-count-requires : tie.Need-pair-count-requires
+pair-count-requires c κs = search needs
 
-add-first : tie.Need-add-first
-add-first c = search needs
+table-at-requires-2 : tie.Need-table-at-requires-2
+table-at-requires-2 c κs = search needs
 
-read16-requires-2 : tie.Need-read16-requires-2
-read16-requires-2 c κs = search needs
-
-mul-second : tie.Need-mul-second
-mul-second c = search needs
-
-add-second : tie.Need-add-second
-add-second c = search needs
-
-read16-requires-3 : tie.Need-read16-requires-3
-read16-requires-3 c κs = search needs
+pair-count-requires-2 : tie.Need-pair-count-requires-2
+pair-count-requires-2 c κs = search needs
 
 put-own-requires : tie.Need-put-own-requires
 put-own-requires c κs =
-    let s = c .before .before .before .before .before .before .before .before .before in
+    let s = c .before .before .before .before .before .before .before .before .before .before in
     let a = s .args in
     let size = header-length (a .b .now) (a .name .now) (a .subgraph .now) (a .translation .now) (a .between) in
     (s .pre .0, omega (arith, s .pre .1))
@@ -46,12 +37,12 @@ slice-aggregate-put-pairs c = search needs
 
 put-pairs-requires : tie.Need-put-pairs-requires
 put-pairs-requires c κs =
-    let r4 = c .before .before .before .before .before .before .before in
-    let r0 = r4 .before in
-    let s = r0 .before .before .before .before .before .before in
+    let n = c .before .before .before .before .before .before .before .before in
+    let t = n .before in
+    let s = t .before .before .before .before .before .before in
     let a = s .args in
     let size = header-length (a .b .now) (a .name .now) (a .subgraph .now) (a .translation .now) (a .between) in
-    rw (r0 .read16 .ensures .0, r4 .read162 .ensures .0) (s .pre .0 .subgraph, omega (arith, s .pre .1, c .before .before .before .before .put-own .ensures .0))
+    rw (t .table-at .ensures .0, n .pair-count .ensures .0) (s .pre .0 .subgraph, omega (arith, s .pre .1, c .before .before .before .before .put-own .ensures .0))
 
 slice-aggregate-put-pairs-2 : tie.Need-slice-aggregate-put-pairs-2
 slice-aggregate-put-pairs-2 c = search needs
@@ -60,14 +51,15 @@ put-pairs-requires-2 : tie.Need-put-pairs-requires-2
 put-pairs-requires-2 c κs =
     let k = c .before .before .before .before in
     let o = k .before .before .before .before .before in
-    let r6 = o .before .before in
-    let r4 = r6 .before in
-    let r0 = r4 .before in
-    let s = r0 .before .before .before .before .before .before in
+    let n2 = o .before .before in
+    let t2 = n2 .before in
+    let n = t2 .before in
+    let t = n .before in
+    let s = t .before .before .before .before .before .before in
     let a = s .args in
     let size = header-length (a .b .now) (a .name .now) (a .subgraph .now) (a .translation .now) (a .between) in
-    let front = rw (r0 .read16 .ensures .0, r4 .read162 .ensures .0) at (k .put-pairs .ensures .0) in
-    rw (r0 .read16 .ensures .0, r4 .read162 .ensures .0, r6 .read163 .ensures .0)
+    let front = rw (t .table-at .ensures .0, n .pair-count .ensures .0) at (k .put-pairs .ensures .0) in
+    rw (t2 .table-at2 .ensures .0, n2 .pair-count2 .ensures .0)
     (s .pre .0 .translation, omega (arith, s .pre .1, o .put-own .ensures .0, o .put-own .kept .0, k .put-pairs .kept .0))
 
 same-length : tie.Need-same-length
@@ -78,10 +70,11 @@ returns c =
     let l = c .before .before in
     let k = l .before .before .before .before .before in
     let o = k .before .before .before .before .before in
-    let r6 = o .before .before in
-    let r4 = r6 .before in
-    let r0 = r4 .before in
-    let s = r0 .before .before .before .before .before .before in
+    let n2 = o .before .before in
+    let t2 = n2 .before in
+    let n = t2 .before in
+    let t = n .before in
+    let s = t .before .before .before .before .before .before in
     let a = s .args in
     let whole = header-parts (a .b .now) (a .name .now) (a .subgraph .now) (a .translation .now) (a .between) in
     let size = header-length (a .b .now) (a .name .now) (a .subgraph .now) (a .translation .now) (a .between) in
@@ -90,23 +83,20 @@ returns c =
     let z = pairTexts (a .translation .now) (a .between) (10 ∷ []) (pairsFrom (a .b .now) (translationAt (a .b .now)) (number (a .b .now) 6)) in
     let front =
     wrote-both (a .out .now) 0 x y (o .put-own .result) (o .put-own .last .0) (k .put-pairs .result) (k .put-pairs .last .0)
-    (omega (arith, s .pre .1)) (o .put-own .ensures) (rw (r0 .read16 .ensures .0, r4 .read162 .ensures .0) at (k .put-pairs .ensures)) in
+    (omega (arith, s .pre .1)) (o .put-own .ensures) (rw (t .table-at .ensures .0, n .pair-count .ensures .0) at (k .put-pairs .ensures)) in
     rw whole
     (wrote-both (a .out .now) 0 (x ++ y) z (k .put-pairs .result) (k .put-pairs .last .0) (l .put-pairs2 .result) (l .put-pairs2 .last .0)
     (rw (length-append x y) (omega (arith, s .pre .1))) front
-    (rw (r0 .read16 .ensures .0, r4 .read162 .ensures .0, r6 .read163 .ensures .0) at (l .put-pairs2 .ensures)))
+    (rw (t2 .table-at2 .ensures .0, n2 .pair-count2 .ensures .0) at (l .put-pairs2 .ensures)))
 
 pub put-lines-spec : {M : Type 1} → statement M
 put-lines-spec =
     tie.close
     (tie.spec
-    read16-requires
-    mul-first
-    add-first
-    read16-requires-2
-    mul-second
-    add-second
-    read16-requires-3
+    table-at-requires
+    pair-count-requires
+    table-at-requires-2
+    pair-count-requires-2
     put-own-requires
     slice-aggregate-put-pairs
     put-pairs-requires

@@ -12,21 +12,21 @@ use borrow.Author.Needs.{needs}
 use Rattle.export.proofs.header.put_own.Statement.{statement}
 use Rattle.export.proofs.header.put_own.Tie as tie
 
-read16-requires : tie.Need-read16-requires
-read16-requires c κs = search needs
+own-place-requires : tie.Need-own-place-requires
+own-place-requires c κs = search needs
 
 returns : tie.Need-returns
 returns c =
     let r = c .before in
     let a = r .before .before .before .before .args in
-    wrote-none (a .out .now) (a .at) _ (ap (nameLine (a .before .now)) (own-absent (a .b .now) (r .read16 .result) (r .read16 .ensures .0) (c .if1 .taken)))
+    wrote-none (a .out .now) (a .at) _ (ap (nameLine (a .before .now)) (own-absent (a .b .now) (r .own-place .result) (r .own-place .ensures .0) (c .if1 .taken)))
 
 copy-requires : tie.Need-copy-requires
 copy-requires c κs =
     let s = c .before .before .before .before .before .before in
     let a = s .args in
     let r = c .before .before in
-    let e = own-present (a .b .now) (r .read16 .result) (r .read16 .ensures .0) (c .before .if1 .left) in
+    let e = own-present (a .b .now) (r .own-place .result) (r .own-place .ensures .0) (c .before .if1 .left) in
     let size = simp length-append at (ap (λ (o : Option Bytes). length (nameLine (a .before .now) o)) e) in
     omega (arith, s .pre .1)
 
@@ -34,14 +34,14 @@ sub-name-at : tie.Need-sub-name-at
 sub-name-at c = search needs
 
 name-at-requires : tie.Need-name-at-requires
-name-at-requires c κs = (c .before .before .before .before .before .before .before .before .before .before .pre .0 .size, omega (arith, c .before .before .before .before .before .before .read16 .ensures .0))
+name-at-requires c κs = (c .before .before .before .before .before .before .before .before .before .before .pre .0 .size, omega (arith, c .before .before .before .before .before .before .own-place .ensures .0))
 
 copy-requires-2 : tie.Need-copy-requires-2
 copy-requires-2 c κs =
     let s = c .before .before .before .before .before .before .before .before .before .before .before in
     let a = s .args in
     let r = c .before .before .before .before .before .before .before in
-    let e = own-present (a .b .now) (r .read16 .result) (r .read16 .ensures .0) (c .before .before .before .before .before .before .if1 .left) in
+    let e = own-present (a .b .now) (r .own-place .result) (r .own-place .ensures .0) (c .before .before .before .before .before .before .if1 .left) in
     let size = simp length-append at (ap (λ (o : Option Bytes). length (nameLine (a .before .now) o)) e) in
     omega (arith, s .pre .1, ap length (c .name-at .ensures))
 
@@ -50,7 +50,7 @@ put-byte-requires c κs =
     let s = c .before .before .before .before .before .before .before .before .before .before .before .before .before .before .before in
     let a = s .args in
     let r = c .before .before .before .before .before .before .before .before .before .before .before in
-    let e = own-present (a .b .now) (r .read16 .result) (r .read16 .ensures .0) (c .before .before .before .before .before .before .before .before .before .before .if1 .left) in
+    let e = own-present (a .b .now) (r .own-place .result) (r .own-place .ensures .0) (c .before .before .before .before .before .before .before .before .before .before .if1 .left) in
     let size = simp length-append at (ap (λ (o : Option Bytes). length (nameLine (a .before .now) o)) e) in
     omega (arith, s .pre .1, ap length (c .before .before .before .before .name-at .ensures))
 
@@ -67,7 +67,7 @@ returns-2 c =
     let s = r .before .before .before .before in
     let a = s .args in
     let f = n .name-at .result .now in
-    let e = own-present (a .b .now) (r .read16 .result) (r .read16 .ensures .0) (x .before .before .if1 .left) ∙ ap {B = Option Bytes} some (sym (n .name-at .ensures)) in
+    let e = own-present (a .b .now) (r .own-place .result) (r .own-place .ensures .0) (x .before .before .if1 .left) ∙ ap {B = Option Bytes} some (sym (n .name-at .ensures)) in
     let size = simp length-append at (ap (λ (o : Option Bytes). length (nameLine (a .before .now) o)) e) in
     let front = wrote-both (a .out .now) (a .at) (a .before .now) f (x .copy .result) (x .copy .last .0) (y .copy2 .result) (y .copy2 .last .0) (omega (arith, s .pre .1)) (x .copy .ensures) (y .copy2 .ensures) in
     rw e
@@ -78,7 +78,7 @@ pub put-own-spec : {M : Type 1} → statement M
 put-own-spec =
     tie.close
     (tie.spec
-    read16-requires
+    own-place-requires
     returns
     copy-requires
     sub-name-at

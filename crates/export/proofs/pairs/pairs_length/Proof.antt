@@ -27,19 +27,16 @@ bodies-at-requires c κs = c .before .pre .0 .size
 loop-holds : tie.Need-loop-holds Inv-loop μ-loop
 loop-holds c = (c .before .before .pre .0, omega arith, omega arith)
 
-read16-requires : tie.Need-read16-requires Inv-loop μ-loop
-read16-requires c κs = let l = c .before .loop in omega (arith, pair-places _ (l .p) (l .left) (search needs) (l .inv .0))
+pair-from-requires : tie.Need-pair-from-requires Inv-loop μ-loop
+pair-from-requires c κs = let l = c .before .loop in pair-places _ (l .p) (l .left) (search needs) (l .inv .0) .2
 
 name-in-requires : tie.Need-name-in-requires Inv-loop μ-loop
 name-in-requires c κs =
     let l = c .before .before .loop in
     (l .inv .0 .size, c .before .before .before .bodies-at .ensures .0, c .before .before .before .bodies-at .ensures .1, omega (arith, pair-places _ (l .p) (l .left) (search needs) (l .inv .0)))
 
-add-read16 : tie.Need-add-read16 Inv-loop μ-loop
-add-read16 c = let l = c .before .before .before .loop in omega (arith, pair-places _ (l .p) (l .left) (search needs) (l .inv .0))
-
-read16-requires-2 : tie.Need-read16-requires-2 Inv-loop μ-loop
-read16-requires-2 c κs = let l = c .before .before .before .loop in omega (arith, pair-places _ (l .p) (l .left) (search needs) (l .inv .0))
+pair-to-requires : tie.Need-pair-to-requires Inv-loop μ-loop
+pair-to-requires c κs = let l = c .before .before .before .loop in pair-places _ (l .p) (l .left) (search needs) (l .inv .0) .2
 
 name-in-requires-2 : tie.Need-name-in-requires-2 Inv-loop μ-loop
 name-in-requires-2 c κs =
@@ -50,8 +47,8 @@ sizes : (c : tie.After-name-in2 Inv-loop μ-loop) → (length (c .before .before
 sizes c =
     let b = c .before .before .before .before .before .before .before .before .args .b .now in
     let s = c .before .before .before .before .before .loop .inv .0 .size in (
-      omega (arith, ap length (c .before .before .name-in .ensures), name-size b (c .before .before .before .read16 .result)),
-      omega (arith, ap length (c .name-in2 .ensures), name-size b (c .before .read162 .result)),
+      omega (arith, ap length (c .before .before .name-in .ensures), name-size b (c .before .before .before .pair-from .result)),
+      omega (arith, ap length (c .name-in2 .ensures), name-size b (c .before .pair-to .result)),
     )
 
 add-size : tie.Need-add-size Inv-loop μ-loop
@@ -77,8 +74,8 @@ loop-again c =
     let l = c .before .before .before .before .before .loop in
     let a = c .before .before .before .before .before .before .before .before .args in
     let k = c .before .before .before in
-    let from = name-read (a .b .now) _ (k .read16 .result) (number (a .b .now) (l .p)) (k .read16 .ensures .0) (c .before .before .name-in .ensures) in
-    let to = name-read (a .b .now) _ (c .before .read162 .result) (number (a .b .now) (l .p + 2)) (c .before .read162 .ensures .0) (c .name-in2 .ensures) in (
+    let from = name-read (a .b .now) _ (k .pair-from .result) (number (a .b .now) (l .p)) (k .pair-from .ensures .0) (c .before .before .name-in .ensures) in
+    let to = name-read (a .b .now) _ (c .before .pair-to .result) (number (a .b .now) (l .p + 2)) (c .before .pair-to .ensures .0) (c .name-in2 .ensures) in (
       pairs-rest _ (l .p) (l .left) (search needs) (l .inv .0),
       omega (arith, size-turn (a .b .now) (l .p) (l .left) (search needs) (a .beyond), ap length from, ap length to),
       omega (arith, sizes c),
@@ -99,10 +96,9 @@ pairs-length-spec =
     μ-loop
     bodies-at-requires
     loop-holds
-    read16-requires
+    pair-from-requires
     name-in-requires
-    add-read16
-    read16-requires-2
+    pair-to-requires
     name-in-requires-2
     add-size
     add-size-2

@@ -31,19 +31,16 @@ bodies-at-requires c κs = c .before .before .before .before .pre .0 .size
 loop-holds : tie.Need-loop-holds Inv-loop μ-loop
 loop-holds c = (c .before .before .before .before .before .pre .0, refl, refl, refl)
 
-read16-requires : tie.Need-read16-requires Inv-loop μ-loop
-read16-requires c κs = let l = c .before .loop in omega (arith, pair-places _ (l .p) (l .left) (search needs) (l .inv .0))
+pair-from-requires : tie.Need-pair-from-requires Inv-loop μ-loop
+pair-from-requires c κs = let l = c .before .loop in pair-places _ (l .p) (l .left) (search needs) (l .inv .0) .2
 
 name-in-requires : tie.Need-name-in-requires Inv-loop μ-loop
 name-in-requires c κs =
     let l = c .before .before .loop in
     (l .inv .0 .size, c .before .before .before .bodies-at .ensures .0, c .before .before .before .bodies-at .ensures .1, omega (arith, pair-places _ (l .p) (l .left) (search needs) (l .inv .0)))
 
-add-read16 : tie.Need-add-read16 Inv-loop μ-loop
-add-read16 c = let l = c .before .before .before .loop in omega (arith, pair-places _ (l .p) (l .left) (search needs) (l .inv .0))
-
-read16-requires-2 : tie.Need-read16-requires-2 Inv-loop μ-loop
-read16-requires-2 c κs = let l = c .before .before .before .loop in omega (arith, pair-places _ (l .p) (l .left) (search needs) (l .inv .0))
+pair-to-requires : tie.Need-pair-to-requires Inv-loop μ-loop
+pair-to-requires c κs = let l = c .before .before .before .loop in pair-places _ (l .p) (l .left) (search needs) (l .inv .0) .2
 
 name-in-requires-2 : tie.Need-name-in-requires-2 Inv-loop μ-loop
 name-in-requires-2 c κs =
@@ -54,8 +51,8 @@ pair : (c : tie.After-put-pair-arg Inv-loop μ-loop)
     → _≡_ {A = Pair} (record { from = c .before .before .before .name-in .result .now; to = c .before .name-in2 .result .now }) (pairAt (c .before .before .before .before .before .before .before .before .before .before .before .before .args .b .now) (c .before .before .before .before .before .before .loop .p))
 pair c =
     let k = c .before .before .before .before in
-    pair-read (c .before .before .before .before .before .before .before .before .before .before .before .before .args .b .now) _ _ (k .read16 .result) (c .before .before .read162 .result) (c .before .before .before .before .before .before .loop .p)
-    (k .read16 .ensures .0) (c .before .before .before .name-in .ensures) (c .before .before .read162 .ensures .0) (c .before .name-in2 .ensures)
+    pair-read (c .before .before .before .before .before .before .before .before .before .before .before .before .args .b .now) _ _ (k .pair-from .result) (c .before .before .pair-to .result) (c .before .before .before .before .before .before .loop .p)
+    (k .pair-from .ensures .0) (c .before .before .before .name-in .ensures) (c .before .before .pair-to .ensures .0) (c .before .name-in2 .ensures)
 
 put-pair-requires : tie.Need-put-pair-requires Inv-loop μ-loop
 put-pair-requires c κs =
@@ -105,10 +102,9 @@ put-pairs-spec =
     μ-loop
     bodies-at-requires
     loop-holds
-    read16-requires
+    pair-from-requires
     name-in-requires
-    add-read16
-    read16-requires-2
+    pair-to-requires
     name-in-requires-2
     put-pair-requires
     add-p

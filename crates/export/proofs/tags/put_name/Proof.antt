@@ -11,14 +11,14 @@ use borrow.Author.Needs.{needs}
 use Rattle.export.proofs.tags.put_name.Statement.{statement}
 use Rattle.export.proofs.tags.put_name.Tie as tie
 
-read16-requires : tie.Need-read16-requires
-read16-requires c κs = search needs
+own-place-requires : tie.Need-own-place-requires
+own-place-requires c κs = search needs
 
 returns : tie.Need-returns
 returns c =
     let r = c .before in
     let a = r .before .before .before .args in
-    absent-answers _ (a .out .now) (own-absent (a .b .now) (r .read16 .result) (r .read16 .ensures .0) (c .if1 .taken))
+    absent-answers _ (a .out .now) (own-absent (a .b .now) (r .own-place .result) (r .own-place .ensures .0) (c .if1 .taken))
 
 sub-name-at : tie.Need-sub-name-at
 sub-name-at c = search needs
@@ -30,7 +30,7 @@ copy-requires : tie.Need-copy-requires
 copy-requires c κs =
     let r = c .before .before .before in
     let a = r .before .before .before .args in
-    let e = own-present (a .b .now) (r .read16 .result) (r .read16 .ensures .0) (c .before .before .if1 .left) in
+    let e = own-present (a .b .now) (r .own-place .result) (r .own-place .ensures .0) (c .before .before .if1 .left) in
     omega (arith, ap valueSize e, ap length (c .name-at .ensures))
 
 same-length : tie.Need-same-length
@@ -42,14 +42,14 @@ returns-2 c =
     let n = k .before in
     let r = n .before .before .before in
     let a = r .before .before .before .args in
-    let e = own-present (a .b .now) (r .read16 .result) (r .read16 .ensures .0) (n .before .before .if1 .left) ∙ ap {B = Option Bytes} some (sym (n .name-at .ensures)) in
+    let e = own-present (a .b .now) (r .own-place .result) (r .own-place .ensures .0) (n .before .before .if1 .left) ∙ ap {B = Option Bytes} some (sym (n .name-at .ensures)) in
     size-answers _ (a .out .now) (n .name-at .result .now) (k .copy .result) (k .copy .last .0) e (k .copy .ensures)
 
 pub put-name-spec : {M : Type 1} → statement M
 put-name-spec =
     tie.close
     (tie.spec
-    read16-requires
+    own-place-requires
     returns
     sub-name-at
     name-at-requires

@@ -19,19 +19,16 @@ use Rattle.export.proofs.tags.put_tag.Tie as tie
 returns : tie.Need-returns
 returns c = let a = c .before .before .before .args in absent-answers _ (a .out .now) (value-absent (a .b .now) (a .pairs) (a .count) (search needs))
 
-read16-requires : tie.Need-read16-requires
-read16-requires c κs = let s = c .before .before .before in let a = s .args in omega (arith, pair-places _ (a .pairs) (a .count) (omega arith) (s .pre .0))
+pair-from-requires : tie.Need-pair-from-requires
+pair-from-requires c κs = let s = c .before .before .before in let a = s .args in pair-places _ (a .pairs) (a .count) (omega arith) (s .pre .0) .2
 
 name-at-requires : tie.Need-name-at-requires
 name-at-requires c κs =
     let s = c .before .before .before .before in
     (s .pre .0 .size, omega (arith, pair-places _ (s .args .pairs) (s .args .count) (omega arith) (s .pre .0)))
 
-add-read16 : tie.Need-add-read16
-add-read16 c = let s = c .before .before .before .before .before in let a = s .args in omega (arith, pair-places _ (a .pairs) (a .count) (omega arith) (s .pre .0))
-
-read16-requires-2 : tie.Need-read16-requires-2
-read16-requires-2 c κs = let s = c .before .before .before .before .before in let a = s .args in omega (arith, pair-places _ (a .pairs) (a .count) (omega arith) (s .pre .0))
+pair-to-requires : tie.Need-pair-to-requires
+pair-to-requires c κs = let s = c .before .before .before .before .before in let a = s .args in pair-places _ (a .pairs) (a .count) (omega arith) (s .pre .0) .2
 
 name-at-requires-2 : tie.Need-name-at-requires-2
 name-at-requires-2 c κs =
@@ -56,7 +53,7 @@ pair c =
     let q = c .before .before .before .before in
     let m = c .before .before .before in
     let a = start c .args in
-    pair-read (a .b .now) _ _ (r .read16 .result) (q .read162 .result) (a .pairs) (r .read16 .ensures .0) (n .name-at .ensures) (q .read162 .ensures .0) (m .name-at2 .ensures)
+    pair-read (a .b .now) _ _ (r .pair-from .result) (q .pair-to .result) (a .pairs) (r .pair-from .ensures .0) (n .name-at .ensures) (q .pair-to .ensures .0) (m .name-at2 .ensures)
 
 put-pair-requires : tie.Need-put-pair-requires
 put-pair-requires c κs =
@@ -111,10 +108,9 @@ put-tag-spec =
     tie.close
     (tie.spec
     returns
-    read16-requires
+    pair-from-requires
     name-at-requires
-    add-read16
-    read16-requires-2
+    pair-to-requires
     name-at-requires-2
     slice-aggregate-put-pair
     slice-aggregate-put-pair-2
