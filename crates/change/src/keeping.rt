@@ -2,7 +2,6 @@
 use tables::Sizes;
 use tables::keep;
 use tables::name_place;
-use text::read16;
 ghost use mathlib.Core.Path.{_≡_};
 ghost use mathlib.Core.Bool.{true};
 ghost use Rattle.model.specs.Layout.{shown, decode};
@@ -24,7 +23,7 @@ pub(crate) fn keep_named(
     ensures { λ r. ⌜ r ≡ keptOr (now (buffer .entry)) (owned (shown (now (buffer .entry)) .name) (graphIn (tables (now (refs .entry)) (now (subs .entry)) (now (trans .entry)) (now (pool .entry)) sizes))) .number ⌝ }
     ensures { λ _. ⌜ now (buffer .exit) ≡ keptOr (now (buffer .entry)) (owned (shown (now (buffer .entry)) .name) (graphIn (tables (now (refs .entry)) (now (subs .entry)) (now (trans .entry)) (now (pool .entry)) sizes))) .buffer ⌝ }
 {
-    let own = read16(buffer, 2);
+    let own = record::own_place(buffer);
     if own == 0 {
         return keep(buffer, refs, subs, trans, pool, sizes, 0);
     }

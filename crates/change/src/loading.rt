@@ -1,5 +1,8 @@
 // A record copied into tables: its names, the pairs of each kind and the bodies, in their order.
+use model::Kind;
 use record::bodies_at;
+use record::head_at;
+use record::table_at;
 use tables::Sizes;
 use text::copy;
 use text::part;
@@ -46,15 +49,12 @@ pub(crate) fn sizes_of(b: &[u8]) -> Sizes
     requires { ⌜ isSome (decode (now b)) ≡ true ⌝ }
     ensures { λ r. ⌜ r ≡ sizesOf (shown (now (b .entry))) ⌝ }
 {
-    let names = read16(b, 0);
-    let bytes = bodies_length(b, names);
-    let subgraph = read16(b, 4);
-    let translation = read16(b, 6);
+    let h = head_at(b);
     Sizes {
-        names,
-        bytes,
-        subgraph,
-        translation,
+        names: h.names,
+        bytes: bodies_length(b, h.names),
+        subgraph: h.subgraph,
+        translation: h.translation,
     }
 }
 
@@ -75,7 +75,7 @@ pub(crate) fn load(
     let t = sizes.translation;
     let bytes = sizes.bytes;
     load_pairs(refs, n, b, 8);
-    load_pairs(subs, s, b, 8 + 4 * n);
-    load_pairs(trans, t, b, 8 + 4 * n + 4 * s);
+    load_pairs(subs, s, b, table_at(b, Kind::Subgraph));
+    load_pairs(trans, t, b, table_at(b, Kind::Translation));
     copy(pool, 0, part(b, bodies_at(b), bytes));
 }

@@ -1,9 +1,10 @@
 // The pairs of another record put into tables.
 use model::Kind;
 use record::name_at;
+use record::pair_from;
+use record::pair_to;
 use tables::Sizes;
 use tables::put_pair;
-use text::read16;
 ghost use mathlib.Core.Path.{_≡_};
 ghost use mathlib.Core.Bool.{true};
 ghost use Prim.Native.Nat.{_<_};
@@ -33,8 +34,8 @@ fn add_pairs(
     let mut i = 0;
     while i < count {
         let p = at + 4 * i;
-        let from = name_at(other, read16(other, p));
-        let to = name_at(other, read16(other, p + 2));
+        let from = name_at(other, pair_from(other, p));
+        let to = name_at(other, pair_to(other, p));
         done = put_pair(kind, refs, subs, trans, pool, done, from, to);
         i += 1;
     }

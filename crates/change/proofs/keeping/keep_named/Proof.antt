@@ -24,7 +24,7 @@ module _ (t : tie.Then1) where
   start = t .before .before .before .before .before .before .before .before
 
   no-name : shown (start .args .buffer .now) .name ≡ none
-  no-name = own-none (start .args .buffer .now) (sym (t .before .read16 .ensures .0) ∙ t .if1 .taken)
+  no-name = own-none (start .args .buffer .now) (sym (t .before .own-place .ensures .0) ∙ t .if1 .taken)
 
   unnamed : Good none (first start)
   unnamed = subst (λ (o : Option Bytes). Good o (first start)) no-name (start .pre .1)
@@ -35,15 +35,15 @@ module _ (n : tie.After-name-at) where
   begun = n .before .before .before .before .before .before .before .before .before .before
 
   own-name : shown (begun .args .buffer .now) .name ≡ some (n .name-at .result .now)
-  own-name = own-some (begun .args .buffer .now) _ (n .before .before .before .read16 .ensures .0) (n .before .before .if1 .left) ∙ ap (λ (x : Bytes). some x) (sym (n .name-at .ensures))
+  own-name = own-some (begun .args .buffer .now) _ (n .before .before .before .own-place .ensures .0) (n .before .before .if1 .left) ∙ ap (λ (x : Bytes). some x) (sym (n .name-at .ensures))
 
   named : Good (some (n .name-at .result .now)) (first begun)
   named = subst (λ (o : Option Bytes). Good o (first begun)) own-name (begun .pre .1)
 
-read16-requires : tie.Need-read16-requires
-read16-requires c κs =
+own-place-requires : tie.Need-own-place-requires
+own-place-requires c κs =
     let s = c .before .before .before .before .before .before in
-    omega (arith, is-held (s .args .buffer .now) (s .pre .0) .long)
+    is-held (s .args .buffer .now) (s .pre .0) .long
 
 keep-requires : tie.Need-keep-requires
 keep-requires c κs =
@@ -66,7 +66,7 @@ name-at-requires : tie.Need-name-at-requires
 name-at-requires c κs =
     let s = c .before .before .before .before .before .before .before .before .before in
     let h = is-held (s .args .buffer .now) (s .pre .0) in
-    (h .long, omega (arith, h .own, h .count, c .before .before .read16 .ensures .0))
+    (h .long, omega (arith, h .own, h .count, c .before .before .own-place .ensures .0))
 
 name-place-requires : tie.Need-name-place-requires
 name-place-requires c κs = search needs
@@ -97,7 +97,7 @@ pub keep-named-spec : {M : Type 1} → statement M
 keep-named-spec =
     tie.close
     (tie.spec
-    read16-requires
+    own-place-requires
     keep-requires
     same-length
     returns

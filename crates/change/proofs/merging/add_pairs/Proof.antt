@@ -54,8 +54,8 @@ add-p c =
     let b = is-held (a .other .now) (s .pre .0 .1) .long in
     omega arith
 
-read16-requires : tie.Need-read16-requires Inv-loop μ-loop
-read16-requires c κs =
+pair-from-requires : tie.Need-pair-from-requires Inv-loop μ-loop
+pair-from-requires c κs =
     let l = c .before in
     let s = l .before .before .before .before .before .before .before .before in
     let a = s .args in
@@ -68,19 +68,10 @@ name-at-requires c κs =
     let s = l .before .before .before .before .before .before .before .before in
     let a = s .args in
     let h = places-inside (a .other .now) (s .pre .0 .1) (a .kind) (l .loop .i) (inside l (c .before .loop-test .taken)) (l .before .table-at .result) (l .before .table-at .ensures .0) in
-    (is-held (a .other .now) (s .pre .0 .1) .long, omega (arith, c .read16 .ensures .0))
+    (is-held (a .other .now) (s .pre .0 .1) .long, omega (arith, c .pair-from .ensures .0))
 
-add-read16 : tie.Need-add-read16 Inv-loop μ-loop
-add-read16 c =
-    let l = c .before .before .before in
-    let s = l .before .before .before .before .before .before .before .before in
-    let a = s .args in
-    let h = pair-inside (a .other .now) (s .pre .0 .1) (a .kind) (l .loop .i) (inside l (c .before .before .loop-test .taken)) (l .before .table-at .result) (l .before .table-at .ensures .0) in
-    let b = is-held (a .other .now) (s .pre .0 .1) .long in
-    omega arith
-
-read16-requires-2 : tie.Need-read16-requires-2 Inv-loop μ-loop
-read16-requires-2 c κs =
+pair-to-requires : tie.Need-pair-to-requires Inv-loop μ-loop
+pair-to-requires c κs =
     let l = c .before .before .before in
     let s = l .before .before .before .before .before .before .before .before in
     let a = s .args in
@@ -93,14 +84,14 @@ name-at-requires-2 c κs =
     let s = l .before .before .before .before .before .before .before .before in
     let a = s .args in
     let h = places-inside (a .other .now) (s .pre .0 .1) (a .kind) (l .loop .i) (inside l (c .before .before .before .loop-test .taken)) (l .before .table-at .result) (l .before .table-at .ensures .0) in
-    (is-held (a .other .now) (s .pre .0 .1) .long, omega (arith, c .read162 .ensures .0))
+    (is-held (a .other .now) (s .pre .0 .1) .long, omega (arith, c .pair-to .ensures .0))
 
 put-pair-requires : tie.Need-put-pair-requires Inv-loop μ-loop
 put-pair-requires c κs =
     let l = c .before .before .before .before .before .before .before .before .before in
     let s = l .before .before .before .before .before .before .before .before in
     let a = s .args in
-    let n = names-read (a .other .now) (s .pre .0 .1) (a .kind) (l .loop .i) (inside l (c .before .before .before .before .before .before .before .before .loop-test .taken)) (l .before .table-at .result) (l .before .table-at .ensures .0) (c .before .before .before .before .before .before .before .read16 .result) (c .before .before .before .before .before .read162 .result) (c .before .before .before .before .before .before .name-at .result .now) (c .before .before .before .before .name-at2 .result .now) (c .before .before .before .before .before .before .before .read16 .ensures .0) (c .before .before .before .before .before .read162 .ensures .0) (c .before .before .before .before .before .before .name-at .ensures) (c .before .before .before .before .name-at2 .ensures) in
+    let n = names-read (a .other .now) (s .pre .0 .1) (a .kind) (l .loop .i) (inside l (c .before .before .before .before .before .before .before .before .loop-test .taken)) (l .before .table-at .result) (l .before .table-at .ensures .0) (c .before .before .before .before .before .before .before .pair-from .result) (c .before .before .before .before .before .pair-to .result) (c .before .before .before .before .before .before .name-at .result .now) (c .before .before .before .before .name-at2 .result .now) (c .before .before .before .before .before .before .before .pair-from .ensures .0) (c .before .before .before .before .before .pair-to .ensures .0) (c .before .before .before .before .before .before .name-at .ensures) (c .before .before .before .before .name-at2 .ensures) in
     (l .loop .inv .1 .kept, putting-room (a .kind) (tables (a .refs .now) (a .subs .now) (a .trans .now) (a .pool .now) (a .sizes)) (shown (a .other .now)) (s .pre .0 .0) (l .loop .i) (tables (l .loop .refs) (l .loop .subs) (l .loop .trans) (l .loop .pool) (l .loop .done)) (l .loop .inv .1) _ _ (s .pre .1) (rw (pairs-counted (a .other .now) (s .pre .0 .1) (a .kind)) (inside l (c .before .before .before .before .before .before .before .before .loop-test .taken))) (n .0) (n .1))
 
 add-i : tie.Need-add-i Inv-loop μ-loop
@@ -118,7 +109,7 @@ loop-again c =
       omega (arith, c .before .before .before .before .before .before .before .before .before .before .before .before .before .before .before .before .before .loop-test .taken),
       putting-turn (a .kind) (tables (a .refs .now) (a .subs .now) (a .trans .now) (a .pool .now) (a .sizes)) (shown (a .other .now)) (s .pre .0 .0) (l .loop .i) (tables (l .loop .refs) (l .loop .subs) (l .loop .trans) (l .loop .pool) (l .loop .done)) (l .loop .inv .1) _ _ _
           (rw (pairs-counted (a .other .now) (s .pre .0 .1) (a .kind)) (inside l (c .before .before .before .before .before .before .before .before .before .before .before .before .before .before .before .before .before .loop-test .taken)))
-          (pair-read (a .other .now) (s .pre .0 .1) (a .kind) (l .loop .i) (inside l (c .before .before .before .before .before .before .before .before .before .before .before .before .before .before .before .before .before .loop-test .taken)) (l .before .table-at .result) (l .before .table-at .ensures .0) (c .before .before .before .before .before .before .before .before .before .before .before .before .before .before .before .before .read16 .result) (c .before .before .before .before .before .before .before .before .before .before .before .before .before .before .read162 .result) (c .before .before .before .before .before .before .before .before .before .before .before .before .before .before .before .name-at .result .now) (c .before .before .before .before .before .before .before .before .before .before .before .before .before .name-at2 .result .now) (c .before .before .before .before .before .before .before .before .before .before .before .before .before .before .before .before .read16 .ensures .0) (c .before .before .before .before .before .before .before .before .before .before .before .before .before .before .read162 .ensures .0) (c .before .before .before .before .before .before .before .before .before .before .before .before .before .before .before .name-at .ensures) (c .before .before .before .before .before .before .before .before .before .before .before .before .before .name-at2 .ensures))
+          (pair-read (a .other .now) (s .pre .0 .1) (a .kind) (l .loop .i) (inside l (c .before .before .before .before .before .before .before .before .before .before .before .before .before .before .before .before .before .loop-test .taken)) (l .before .table-at .result) (l .before .table-at .ensures .0) (c .before .before .before .before .before .before .before .before .before .before .before .before .before .before .before .before .pair-from .result) (c .before .before .before .before .before .before .before .before .before .before .before .before .before .before .pair-to .result) (c .before .before .before .before .before .before .before .before .before .before .before .before .before .before .before .name-at .result .now) (c .before .before .before .before .before .before .before .before .before .before .before .before .before .name-at2 .result .now) (c .before .before .before .before .before .before .before .before .before .before .before .before .before .before .before .before .pair-from .ensures .0) (c .before .before .before .before .before .before .before .before .before .before .before .before .before .before .pair-to .ensures .0) (c .before .before .before .before .before .before .before .before .before .before .before .before .before .before .before .name-at .ensures) (c .before .before .before .before .before .before .before .before .before .before .before .before .before .name-at2 .ensures))
           (p .ensures) (p .kept .1 .0) (p .kept .1 .1 .0) (p .kept .1 .1 .1 .0) (p .kept .1 .1 .1 .1 .0),
     )
 
@@ -154,10 +145,9 @@ add-pairs-spec =
     loop-holds
     mul-p
     add-p
-    read16-requires
+    pair-from-requires
     name-at-requires
-    add-read16
-    read16-requires-2
+    pair-to-requires
     name-at-requires-2
     put-pair-requires
     add-i
