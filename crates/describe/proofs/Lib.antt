@@ -1,7 +1,4 @@
-pub mod Sizes
-pub mod Sequence
-pub mod Runs
-pub mod Parts
+pub mod Tests
 pub mod Bound
 pub mod Reading
 pub mod Finding

@@ -13,7 +13,7 @@ use Rattle.model.specs.Numbers.{le16, number}
 use Rattle.model.specs.Path.{Step, kindNumber, pathEntries, pathBodies, pathBytes}
 use Rattle.model.specs.Describe.{legs}
 use Rattle.path_bytes.proofs.PathBytes.{length-path}
-use Rattle.describe.specs.Legs.{kindOf, legsAt, PathIn, startAt, pathLegs}
+use Rattle.description_text.specs.Legs.{kindOf, legsAt, PathIn, startAt, pathLegs}
 
 -- ------------------------------------------------------------------ numbers
 

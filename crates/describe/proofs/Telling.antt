@@ -20,8 +20,8 @@ use Rattle.model.specs.Written.{within, withDescs, relationshipWritten}
 use Rattle.record.proofs.Laws.{decode-held}
 use Rattle.record.proofs.Access.{record-own}
 use Rattle.record.proofs.Parts.{both-refuse}
-use Rattle.describe.specs.Legs.{startAt, PathIn}
-use Rattle.describe.specs.Lines.{noneTold, Owner}
+use Rattle.description_text.specs.Legs.{startAt, PathIn}
+use Rattle.description_text.specs.Lines.{noneTold, Owner}
 use Rattle.describe.specs.Direction.{Apart, Leads, toldOf, pathTold}
 use Rattle.describe.proofs.Reading.{path-in, start-read, path-legs}
 

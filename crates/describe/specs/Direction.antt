@@ -14,7 +14,7 @@ use Rattle.model.specs.Describe.{afterLastEmpty, describePath}
 use Rattle.model.specs.Written.{within, withDescs}
 use Rattle.describe.specs.declared.direction.Direction.{Direction}
 use Rattle.describe.specs.declared.direction.Direction.the-variants.{Refused, Forward, Backward, Neither}
-use Rattle.describe.specs.Legs.{roomForPath, startAt, pathLegs}
+use Rattle.description_text.specs.Legs.{roomForPath, startAt, pathLegs}
 
 -- two records, with no path from the first to the second
 pub record Apart (b c : Bytes) : Type 0 where

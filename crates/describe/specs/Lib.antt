@@ -1,3 +1,1 @@
-pub mod Legs
-pub mod Lines
 pub mod Direction

@@ -3,7 +3,7 @@ use path_bytes::Reply;
 use questions::translates_to;
 ghost use mathlib.Core.Path.{_≡_};
 ghost use lib.ListN.{length};
-ghost use Rattle.describe.specs.Legs.{roomForPath};
+ghost use Rattle.description_text.specs.Legs.{roomForPath};
 ghost use Rattle.describe.specs.Direction.{Finds};
 
 // Which way a path leads: from the first graph to the second, from the second to the first, or neither; or the number of a refusal.

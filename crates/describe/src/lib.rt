@@ -2,11 +2,6 @@
 //
 // The public function takes any slices and equals the definition `relationshipWritten` of `model/specs/Written.antt`.
 mod direction;
-mod graphs;
-mod legs;
-mod lines;
 mod relationship;
-mod steps;
-mod whole;
 
 pub use relationship::describe_relationship;

@@ -2,11 +2,11 @@
 use crate::direction::Direction;
 use crate::direction::find_path;
 use crate::direction::path_room;
-use crate::legs::after_last_empty;
-use crate::whole::none_length;
-use crate::whole::path_length;
-use crate::whole::put_none;
-use crate::whole::put_path;
+use description_text::after_last_empty;
+use description_text::none_length;
+use description_text::path_length;
+use description_text::put_none;
+use description_text::put_path;
 use export::Written;
 use text::part;
 use text::read16;
@@ -16,8 +16,8 @@ ghost use lib.Dec.{leb};
 ghost use lib.ListN.{length};
 ghost use Rattle.model.specs.Written.{relationshipWritten};
 ghost use Rattle.export.specs.Answers.{Answers};
-ghost use Rattle.describe.specs.Legs.{PathIn};
-ghost use Rattle.describe.specs.Lines.{noneTold, Owner};
+ghost use Rattle.description_text.specs.Legs.{PathIn};
+ghost use Rattle.description_text.specs.Lines.{noneTold, Owner};
 ghost use Rattle.describe.specs.Direction.{Finds, toldOf, pathTold};
 
 // Whether neither desc is over 4,096 bytes.

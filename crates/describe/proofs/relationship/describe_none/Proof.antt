@@ -1,9 +1,9 @@
 -- Refused for a long desc, then for want of room, else written.
 use native.Mathlib.Omega.{arith}
 use Rattle.model.specs.Bytes.{Bytes}
-use Rattle.describe.specs.Lines.{noneTold}
+use Rattle.description_text.specs.Lines.{noneTold}
 use Rattle.export.proofs.Answering.{refused-answers, wrote-answers}
-use Rattle.describe.proofs.Parts.{told-long, told-not, told-all, descs-short}
+use Rattle.describe.proofs.Tests.{told-long, told-not, told-all, descs-short}
 use borrow.Author.Needs.{needs}
 use Rattle.describe.proofs.relationship.describe_none.Statement.{statement}
 use Rattle.describe.proofs.relationship.describe_none.Tie as tie

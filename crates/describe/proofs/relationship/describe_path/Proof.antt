@@ -5,10 +5,10 @@ use lib.ListN.{length}
 use Rattle.model.specs.Bytes.{Bytes}
 use Rattle.model.specs.Describe.{describePath}
 use Rattle.describe.specs.Direction.{toldOf, pathTold}
-use Rattle.describe.specs.Legs.{legsAt}
+use Rattle.description_text.specs.Legs.{legsAt}
 use Rattle.export.proofs.Answering.{refused-answers, wrote-answers}
-use Rattle.describe.proofs.Parts.{told-path, told-long, told-not, told-all, descs-short}
-use Rattle.describe.proofs.Runs.{part-size}
+use Rattle.describe.proofs.Tests.{told-path, told-long, told-not, told-all, descs-short}
+use Rattle.description_text.proofs.Runs.{part-size}
 use borrow.Author.Needs.{needs}
 use Rattle.describe.proofs.relationship.describe_path.Statement.{statement}
 use Rattle.describe.proofs.relationship.describe_path.Tie as tie

@@ -1,0 +1,4 @@
+pub mod Runs
+pub mod Sequence
+pub mod Sizes
+pub mod Parts
