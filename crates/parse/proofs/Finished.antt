@@ -17,7 +17,7 @@ use Rattle.tables.specs.Tables.{tables}
 use Rattle.tables.specs.Judging.{Good}
 use Rattle.tables.specs.declared.putting.Sizes.{Sizes}
 use Rattle.tables.specs.Tables.{Tables}
-use Rattle.parse.specs.declared.taking.State.{State}
+use Rattle.intake.specs.declared.taking.State.{State}
 use Rattle.parse.specs.declared.reading.Ended.{Ended}
 use Rattle.parse.specs.declared.reading.Ended.the-variants.{Done, Refused}
 use Rattle.parse.specs.declared.finish.Answer.the-variants.{Done as Answered, Refused as Denied}
@@ -25,7 +25,8 @@ use Rattle.fields.specs.Rest.{restOf}
 use Rattle.fields.specs.declared.field.Source.the-variants.{Header}
 use Rattle.fields.proofs.Rest.{header-start}
 use Rattle.parse.specs.Answers.{refusalIn}
-use Rattle.parse.specs.State.{firstStop, readingOf, Lengths, nothingTaken, graphNow, Ready}
+use Rattle.intake.specs.State.{Lengths, nothingTaken, graphNow, Ready}
+use Rattle.parse.specs.Endings.{firstStop, readingOf}
 
 -- ------------------------------------------------------------------ the start
 

@@ -15,15 +15,16 @@ use Rattle.fields.specs.declared.field.Source.{Source}
 use Rattle.fields.specs.declared.field.Source.the-variants.{Header, Tag}
 use Rattle.fields.specs.declared.step.Tally.{Tally}
 use Rattle.fields.specs.declared.step.FieldRead.{FieldRead}
-use Rattle.parse.specs.declared.taking.State.{State}
-use Rattle.parse.specs.declared.taking.FieldTaken.{FieldTaken}
-use Rattle.parse.specs.declared.taking.FieldTaken.the-variants.{Took, Wrong}
+use Rattle.intake.specs.declared.taking.State.{State}
+use Rattle.intake.specs.declared.taking.FieldTaken.{FieldTaken}
+use Rattle.intake.specs.declared.taking.FieldTaken.the-variants.{Took, Wrong}
 use Rattle.parse.specs.declared.reading.Ended.{Ended}
 use Rattle.parse.specs.declared.reading.Ended.the-variants.{Done, Refused}
 use Rattle.fields.specs.Fields.{apply}
 use Rattle.fields.specs.Contents.{fieldOf}
 use Rattle.fields.specs.Rest.{restOf, Place, partOf, Reads}
-use Rattle.parse.specs.State.{graphNow, Ready, takenOf, ReadyAfter, TakenAs, firstStop, refusedAs, EndedAs}
+use Rattle.intake.specs.State.{graphNow, Ready, takenOf, ReadyAfter, TakenAs}
+use Rattle.parse.specs.Endings.{firstStop, refusedAs, EndedAs}
 use Rattle.fields.proofs.Rest.{rest-end}
 
 pub record Ongoing (source : Source) (t : Bytes) (whole : Reading) (refs subs trans : List ℕ) (pool own : Bytes) (state : State) (stop at : ℕ) (tally : Tally) : Type 0 where

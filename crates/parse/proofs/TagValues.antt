@@ -11,15 +11,16 @@ use Rattle.model.specs.Record.{GraphName, empty, withName}
 use Rattle.model.specs.Reading.{judged, Reading, done, refused, afterReading, nameValue, addTo, tagValue, fromTags}
 use Rattle.tables.specs.declared.putting.Sizes.{Sizes}
 use Rattle.tables.specs.Tables.{Tables}
-use Rattle.parse.specs.declared.taking.State.{State}
-use Rattle.parse.specs.declared.taking.FieldTaken.{FieldTaken}
-use Rattle.parse.specs.declared.taking.FieldTaken.the-variants.{Took, Wrong}
+use Rattle.intake.specs.declared.taking.State.{State}
+use Rattle.intake.specs.declared.taking.FieldTaken.{FieldTaken}
+use Rattle.intake.specs.declared.taking.FieldTaken.the-variants.{Took, Wrong}
 use Rattle.parse.specs.declared.reading.Ended.{Ended}
 use Rattle.parse.specs.declared.reading.Ended.the-variants.{Done, Refused}
 use Rattle.fields.specs.declared.field.Source.the-variants.{Tag}
 use Rattle.fields.specs.Fields.{tagNumber}
 use Rattle.fields.specs.Rest.{restOf}
-use Rattle.parse.specs.State.{graphNow, Ready, ReadyAfter, TakenAs, firstStop, readingOf, ReadyAtEnd, EndedAs}
+use Rattle.intake.specs.State.{graphNow, Ready, ReadyAfter, TakenAs}
+use Rattle.parse.specs.Endings.{firstStop, readingOf, ReadyAtEnd, EndedAs}
 use Rattle.model.specs.Values.{given}
 use Rattle.fields.proofs.Rest.{tag-start}
 

@@ -1,2 +1,2 @@
-pub mod State
+pub mod Endings
 pub mod Answers

@@ -2,12 +2,12 @@
 use crate::finish::Answer;
 use crate::finish::finish;
 use crate::reading::read_text;
-use crate::taking::begin;
-use crate::taking::name_table;
-use crate::taking::own_buffer;
-use crate::taking::pair_table;
-use crate::taking::pool;
 use fields::Source;
+use intake::begin;
+use intake::name_table;
+use intake::own_buffer;
+use intake::pair_table;
+use intake::pool;
 ghost use mathlib.Core.Path.{_≡_};
 ghost use Rattle.model.specs.Reading.{fromHeaderLines};
 ghost use Rattle.model.specs.Outcome.{readInto, refusalInto};

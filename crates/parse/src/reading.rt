@@ -1,14 +1,15 @@
 // A text read field by field into the working tables.
-use crate::taking::FieldTaken;
-use crate::taking::State;
-use crate::taking::take_field;
 use fields::Source;
 use fields::Tally;
 use fields::next;
+use intake::FieldTaken;
+use intake::State;
+use intake::take_field;
 ghost use mathlib.Core.Path.{_≡_};
 ghost use Rattle.tables.specs.Tables.{tables};
 ghost use Rattle.fields.specs.Rest.{restOf};
-ghost use Rattle.parse.specs.State.{graphNow, Ready, firstStop, refusedAs, EndedAs};
+ghost use Rattle.intake.specs.State.{graphNow, Ready};
+ghost use Rattle.parse.specs.Endings.{firstStop, refusedAs, EndedAs};
 
 // How a reading ends: with what it has then, or with a refusal's number, line and quoted part.
 pub(crate) enum Ended {

@@ -1,7 +1,7 @@
 -- By how the reading ended (`Finished`).
 use mathlib.Core.Path.{subst}
 use Rattle.tables.specs.Tables.{tables}
-use Rattle.parse.specs.State.{ReadyAtEnd}
+use Rattle.parse.specs.Endings.{ReadyAtEnd}
 use Rattle.parse.specs.declared.reading.Ended.{Ended}
 use Rattle.parse.proofs.Finished.{done-ended, refused-ended}
 use borrow.Author.Needs.{needs}

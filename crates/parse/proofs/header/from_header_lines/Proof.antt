@@ -1,6 +1,6 @@
 -- A buffer of a wrong size, or the reading and its end (`Finished`).
 use mathlib.Core.Path.{refl, _∙_}
-use Rattle.parse.specs.State.{Lengths}
+use Rattle.intake.specs.State.{Lengths}
 use Rattle.model.specs.Reading.{fromHeaderLines}
 use Rattle.model.specs.Outcome.{readInto}
 use Rattle.parse.proofs.Finished.{nothing-ready, header-read, finished, wrong-size}

@@ -9,7 +9,8 @@ use Rattle.tables.specs.Tables.{tables}
 use Rattle.fields.specs.Fields.{apply}
 use Rattle.fields.specs.Contents.{fieldOf, Within}
 use Rattle.fields.specs.Rest.{restOf, partOf}
-use Rattle.parse.specs.State.{graphNow, TakenAs, firstStop}
+use Rattle.intake.specs.State.{graphNow, TakenAs}
+use Rattle.parse.specs.Endings.{firstStop}
 use Rattle.parse.proofs.Ongoing.{Ongoing, reading-starts, reading-ends, reading-goes-on, reading-refused}
 use borrow.Author.Needs.{needs}
 use native.Mathlib.Omega.{arith}

@@ -2,7 +2,7 @@
 use mathlib.Core.Path.{subst}
 use borrow.Author.Tests.{not-true, not-false}
 use Rattle.tables.specs.Tables.{tables}
-use Rattle.parse.specs.State.{ReadyAtEnd}
+use Rattle.parse.specs.Endings.{ReadyAtEnd}
 use Rattle.parse.specs.declared.reading.Ended.{Ended}
 use Rattle.parse.proofs.TagValues.{tag-absent, tag-refused, tag-read}
 use borrow.Author.Needs.{needs}

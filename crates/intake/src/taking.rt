@@ -12,48 +12,48 @@ ghost use Rattle.tables.specs.Judging.{NamesKept};
 ghost use Rattle.tables.specs.Tables.{tables, namesIn};
 ghost use Rattle.fields.specs.Fields.{apply};
 ghost use Rattle.fields.specs.Contents.{fieldOf, Within};
-ghost use Rattle.parse.specs.State.{nothingTaken, ownOf, graphNow, judgeNames, judgedAs, nameTaken, Ready, TakenAs};
+ghost use Rattle.intake.specs.State.{nothingTaken, ownOf, graphNow, judgeNames, judgedAs, nameTaken, Ready, TakenAs};
 
 // What a reading has so far: how much of the tables is in use, and the own name's length and one more, or 0 for none.
-pub(crate) struct State {
+pub struct State {
     pub sizes: Sizes,
     pub own: usize,
 }
 
 // A field taken: what the reading has then, or the number of the refusal.
-pub(crate) enum FieldTaken {
+pub enum FieldTaken {
     Took(State),
     Wrong(usize),
 }
 
 // Tables with room for the names and pairs of a full record and of a field more, and a pool for their bodies.
-pub(crate) fn name_table() -> [u32; 516]
+pub fn name_table() -> [u32; 516]
     ensures { λ r. ⌜ length r ≡ 516 ⌝ }
 {
     [0; 516]
 }
 
-pub(crate) fn pair_table() -> [u32; 1026]
+pub fn pair_table() -> [u32; 1026]
     ensures { λ r. ⌜ length r ≡ 1026 ⌝ }
 {
     [0; 1026]
 }
 
-pub(crate) fn pool() -> [u8; 23040]
+pub fn pool() -> [u8; 23040]
     ensures { λ r. ⌜ length r ≡ 23040 ⌝ }
 {
     [0; 23040]
 }
 
 // A buffer for an own name.
-pub(crate) fn own_buffer() -> [u8; 256]
+pub fn own_buffer() -> [u8; 256]
     ensures { λ r. ⌜ length r ≡ 256 ⌝ }
 {
     [0; 256]
 }
 
 // Nothing taken yet.
-pub(crate) fn begin() -> State
+pub fn begin() -> State
     ensures { λ r. ⌜ r ≡ nothingTaken ⌝ }
 {
     State {
@@ -137,7 +137,7 @@ fn take_pair(
 }
 
 // A field with what it says, taken into the tables and the own name.
-pub(crate) fn take_field(
+pub fn take_field(
     refs: &mut [u32],
     subs: &mut [u32],
     trans: &mut [u32],

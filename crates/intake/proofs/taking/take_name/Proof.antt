@@ -3,11 +3,11 @@ use mathlib.Core.Path.{_∙_}
 use lib.ListN.{length}
 use borrow.Author.Tests.{lt-ltb}
 use Rattle.tables.specs.Tables.{namesIn}
-use Rattle.parse.proofs.Progress.{name-taken}
+use Rattle.intake.proofs.Progress.{name-taken}
 use native.Mathlib.Omega.{arith}
 use borrow.Author.Needs.{needs}
-use Rattle.parse.proofs.taking.take_name.Statement.{statement}
-use Rattle.parse.proofs.taking.take_name.Tie as tie
+use Rattle.intake.proofs.taking.take_name.Statement.{statement}
+use Rattle.intake.proofs.taking.take_name.Tie as tie
 
 returns : tie.Need-returns
 returns c =

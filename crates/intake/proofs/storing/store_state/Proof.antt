@@ -1,11 +1,11 @@
 -- As the tables stand, or with the own name put in (`Stored`).
 use mathlib.Core.Path.{ap, _∙_}
 use Rattle.model.specs.Layout.{encode}
-use Rattle.parse.proofs.Stored.{stored-none, graph-none, name-room, stored-own, graph-own}
+use Rattle.intake.proofs.Stored.{stored-none, graph-none, name-room, stored-own, graph-own}
 use native.Mathlib.Omega.{arith}
 use borrow.Author.Needs.{needs}
-use Rattle.parse.proofs.finish.store_state.Statement.{statement}
-use Rattle.parse.proofs.finish.store_state.Tie as tie
+use Rattle.intake.proofs.storing.store_state.Statement.{statement}
+use Rattle.intake.proofs.storing.store_state.Tie as tie
 
 abbrev start : tie.After-slice-known5 → tie.Start
 start k = k .before .before .before .before .before .before

@@ -1,8 +1,8 @@
 -- A long name, or the pair put in and judged.
-use Rattle.parse.proofs.Progress.{long-from, long-to, pair-room, pair-kept, pair-progress}
+use Rattle.intake.proofs.Progress.{long-from, long-to, pair-room, pair-kept, pair-progress}
 use borrow.Author.Needs.{needs}
-use Rattle.parse.proofs.taking.take_pair.Statement.{statement}
-use Rattle.parse.proofs.taking.take_pair.Tie as tie
+use Rattle.intake.proofs.taking.take_pair.Statement.{statement}
+use Rattle.intake.proofs.taking.take_pair.Tie as tie
 
 abbrev start : tie.Else2 → tie.Start
 start e = e .before .before .before .before .before .before .before .before .before

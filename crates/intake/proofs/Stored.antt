@@ -14,8 +14,8 @@ use Rattle.tables.specs.Tables.{Tables, tables, tableNames, graphIn, readOut, N
 use Rattle.tables.specs.Judging.{owned}
 use Rattle.tables.proofs.Judge.{meaning-own, ready-own}
 use Rattle.tables.proofs.Search.{length-names}
-use Rattle.parse.specs.State.{graphNow, Ready}
-use Rattle.parse.proofs.Progress.{own-some, now-names, in-use}
+use Rattle.intake.specs.State.{graphNow, Ready}
+use Rattle.intake.proofs.Progress.{own-some, now-names, in-use}
 
 module _ (refs subs trans : List ℕ) (pool own : Bytes) (sizes : Sizes) (n : ℕ) (h : Ready (tables refs subs trans pool sizes) own n) where
   abbrev t : Tables

@@ -33,10 +33,10 @@ use Rattle.fields.specs.declared.field.Content.{Content}
 use Rattle.fields.specs.declared.field.Content.the-variants.{Fault, Nothing, Name, Relation}
 use Rattle.fields.specs.Fields.{apply}
 use Rattle.fields.specs.Contents.{fieldOf}
-use Rattle.parse.specs.declared.taking.State.{State}
-use Rattle.parse.specs.declared.taking.FieldTaken.{FieldTaken}
-use Rattle.parse.specs.declared.taking.FieldTaken.the-variants.{Took, Wrong}
-use Rattle.parse.specs.State.{ownOf, graphNow, judgeNames, judgedAs, nameTaken, Held, Ready, TakenAs}
+use Rattle.intake.specs.declared.taking.State.{State}
+use Rattle.intake.specs.declared.taking.FieldTaken.{FieldTaken}
+use Rattle.intake.specs.declared.taking.FieldTaken.the-variants.{Took, Wrong}
+use Rattle.intake.specs.State.{ownOf, graphNow, judgeNames, judgedAs, nameTaken, Held, Ready, TakenAs}
 
 -- ------------------------------------------------------------------ what is judged
 

@@ -1,8 +1,8 @@
 -- The number decides.
 use borrow.Author.Tests.{eq-eqb, ne-eqb}
 use borrow.Author.Needs.{needs}
-use Rattle.parse.proofs.taking.judged_state.Statement.{statement}
-use Rattle.parse.proofs.taking.judged_state.Tie as tie
+use Rattle.intake.proofs.taking.judged_state.Statement.{statement}
+use Rattle.intake.proofs.taking.judged_state.Tie as tie
 
 judge-requires : tie.Need-judge-requires
 judge-requires c κs = search needs

@@ -1,9 +1,9 @@
 -- No own name, or the front of its buffer.
 use mathlib.Core.Path.{_∙_}
-use Rattle.parse.proofs.Progress.{own-some}
+use Rattle.intake.proofs.Progress.{own-some}
 use borrow.Author.Needs.{needs}
-use Rattle.parse.proofs.taking.judge.Statement.{statement}
-use Rattle.parse.proofs.taking.judge.Tie as tie
+use Rattle.intake.proofs.taking.judge.Statement.{statement}
+use Rattle.intake.proofs.taking.judge.Tie as tie
 
 judged-requires : tie.Need-judged-requires
 judged-requires c κs = search needs

@@ -8,17 +8,13 @@ use lib.ListN.{length, take}
 use lib.Dec.{eqb, ltb}
 use Rattle.model.specs.Bytes.{Bytes}
 use Rattle.model.specs.Record.{GraphName, judge}
-use Rattle.model.specs.Reading.{Taken, took, wrong, Reading, done, refused}
+use Rattle.model.specs.Reading.{Taken, took, wrong}
 use Rattle.tables.specs.declared.putting.Sizes.{Sizes}
 use Rattle.tables.specs.Tables.{Tables, graphIn}
 use Rattle.tables.specs.Judging.{owned, namesAnd, sizeFault, Good}
-use Rattle.fields.specs.declared.field.Source.{Source}
-use Rattle.fields.specs.declared.field.Source.the-variants.{Header, Tag}
-use Rattle.parse.specs.declared.reading.Ended.{Ended}
-use Rattle.parse.specs.declared.reading.Ended.the-variants.{Done, Refused}
-use Rattle.parse.specs.declared.taking.State.{State}
-use Rattle.parse.specs.declared.taking.FieldTaken.{FieldTaken}
-use Rattle.parse.specs.declared.taking.FieldTaken.the-variants.{Took, Wrong}
+use Rattle.intake.specs.declared.taking.State.{State}
+use Rattle.intake.specs.declared.taking.FieldTaken.{FieldTaken}
+use Rattle.intake.specs.declared.taking.FieldTaken.the-variants.{Took, Wrong}
 
 -- the own name by its number, which is its length and one more, or 0 for none
 abbrev pub ownOf : Bytes → ℕ → Option Bytes
@@ -77,28 +73,3 @@ ReadyAfter at own (Wrong n) = Unit {0}
 pub record TakenAs (at : Sizes → Tables) (own : Bytes) (r : FieldTaken) (m : Taken) : Type 0 where
   pub same : takenOf at own r ≡ m
   pub ready : ReadyAfter at own r
-
--- ------------------------------------------------------------------ a whole reading
-
--- where the first part stops: header lines begin with a line, a tag with a relation
-abbrev pub firstStop : Source → Bytes → ℕ
-firstStop Header t = 0
-firstStop (Tag k) t = length t + 1
-
--- a refusal: the quoted part goes with the numbers up to 10
-abbrev pub refusedAs : ℕ → ℕ → ℕ → ℕ → Ended
-refusedAs number line start size = cond (ltb 10 number) (Refused number line 0 0) (Refused number line start size)
-
--- what the end of a reading means
-abbrev pub readingOf : (Sizes → Tables) → Bytes → Ended → Reading
-readingOf at own (Done s) = done (graphNow (at (s .sizes)) own (s .own))
-readingOf at own (Refused number line start size) = refused (record { number = number; line = line; start = start; size = size })
-
-abbrev pub ReadyAtEnd : (Sizes → Tables) → Bytes → Ended → Type 0
-ReadyAtEnd at own (Done s) = Ready (at (s .sizes)) own (s .own)
-ReadyAtEnd at own (Refused number line start size) = Unit {0}
-
--- the reading ended as m
-pub record EndedAs (at : Sizes → Tables) (own : Bytes) (r : Ended) (m : Reading) : Type 0 where
-  pub same : readingOf at own r ≡ m
-  pub ready : ReadyAtEnd at own r

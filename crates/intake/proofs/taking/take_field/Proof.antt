@@ -4,11 +4,11 @@ use Rattle.tables.specs.Tables.{tables}
 use Rattle.fields.specs.Contents.{Within}
 use Rattle.fields.specs.declared.field.Content.{Content}
 use Rattle.fields.specs.declared.field.Content.the-variants.{Relation}
-use Rattle.parse.proofs.Progress.{name-progress, fault-taken, nothing-taken, name-said, pair-said}
+use Rattle.intake.proofs.Progress.{name-progress, fault-taken, nothing-taken, name-said, pair-said}
 use native.Mathlib.Omega.{arith}
 use borrow.Author.Needs.{needs}
-use Rattle.parse.proofs.taking.take_field.Statement.{statement}
-use Rattle.parse.proofs.taking.take_field.Tie as tie
+use Rattle.intake.proofs.taking.take_field.Statement.{statement}
+use Rattle.intake.proofs.taking.take_field.Tie as tie
 
 abbrev start : tie.After-content3 → tie.Start
 start k = k .before .before .before .before .before .before .before .before
