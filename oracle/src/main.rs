@@ -10,6 +10,7 @@ mod edits;
 mod encoder;
 mod generate;
 mod graph;
+mod largest;
 mod limits;
 mod list;
 mod model_paths;
@@ -58,6 +59,7 @@ fn entries(mut report: Report, rounds: usize) -> Report {
         paths::translates_to,
         describe::describe_relationship,
         strict::check_strict,
+        largest::largest_outputs,
     ];
     for entry in compare {
         entry(&mut report, rounds);

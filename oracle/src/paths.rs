@@ -46,7 +46,7 @@ fn questions(report: &mut Report, rounds: usize, question: &Question) {
 }
 
 /// Two graphs that continue each other: a path over these names, its first part in one and the rest in the other.
-fn long_path(names: &[Name], cut: usize, kind: impl Fn(usize) -> Kind + Copy) -> (Graph, Graph) {
+pub fn long_path(names: &[Name], cut: usize, kind: impl Fn(usize) -> Kind + Copy) -> (Graph, Graph) {
     let mut first = chain(&names[..=cut], kind);
     let mut second = chain(&names[cut..], |place| kind(cut + place));
     first.name = names.first().cloned();
@@ -56,7 +56,7 @@ fn long_path(names: &[Name], cut: usize, kind: impl Fn(usize) -> Kind + Copy) ->
 
 /// The names of the longest paths: 511 that fill one record, one that both records have, and 511 that fill the other. With the shared one
 /// empty, the bytes of the path are the most that there can be.
-fn longest_path_names() -> [Vec<Name>; 2] {
+pub fn longest_path_names() -> [Vec<Name>; 2] {
     let with_empty = [filling_names(b'p', NAMES - 1), vec![Vec::new()], filling_names(b'q', NAMES - 1)].concat();
     let with_another = [full_names(b'p'), full_names(b'q')[1..].to_vec()].concat();
     [with_empty, with_another]
