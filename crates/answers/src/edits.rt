@@ -1,66 +1,32 @@
-// The entries that make and change records. The buffer, the output of the call, is to come out as `want` says; the line
-// has the result alone.
+// The entries that make and change records. The line has the result alone.
+use crate::numbers::is;
 use listed::ONE;
 use listed::OTHER;
 use listed::TWO;
-use listed::WANT;
 use listed::held;
 
-// Whether `graph_name_new` answers so.
-pub(crate) fn new(bytes: &[u8], sizes: &[usize], n: [u64; 12], out: &mut [u8]) -> bool {
-    let number = graph_name::graph_name_new(held(bytes, sizes, ONE), out);
-    number as u64 == n[0] && text::same(out, held(bytes, sizes, WANT))
+// The result of the entry of a number, from 6 to 11, on a record.
+fn result(entry: usize, b: &mut [u8], other: &[u8], one: &[u8], two: &[u8]) -> u32 {
+    match entry {
+        6 => graph_name::graph_name_new(one, b),
+        7 => graph_name::graph_name_add_subgraph(b, one, two),
+        8 => graph_name::graph_name_add_translation(b, one, two),
+        9 => graph_name::graph_name_make_subgraph_of(b, other),
+        10 => graph_name::graph_name_add_translation_to(b, other),
+        _ => graph_name::graph_name_add_relationships(b, other),
+    }
 }
 
-// Whether `graph_name_add_subgraph` answers so.
-pub(crate) fn add_subgraph(bytes: &[u8], sizes: &[usize], n: [u64; 12], out: &mut [u8]) -> bool {
-    let number = graph_name::graph_name_add_subgraph(
-        out,
-        held(bytes, sizes, ONE),
-        held(bytes, sizes, TWO),
-    );
-    number as u64 == n[0] && text::same(out, held(bytes, sizes, WANT))
-}
-
-// Whether `graph_name_add_translation` answers so.
-pub(crate) fn add_translation(bytes: &[u8], sizes: &[usize], n: [u64; 12], out: &mut [u8]) -> bool {
-    let number = graph_name::graph_name_add_translation(
-        out,
-        held(bytes, sizes, ONE),
-        held(bytes, sizes, TWO),
-    );
-    number as u64 == n[0] && text::same(out, held(bytes, sizes, WANT))
-}
-
-// Whether `graph_name_make_subgraph_of` answers so.
-pub(crate) fn make_subgraph_of(
+// Whether the entry of a number has the result of a line.
+pub(crate) fn agrees(
+    entry: usize,
     bytes: &[u8],
     sizes: &[usize],
-    n: [u64; 12],
+    n: &[u8],
     out: &mut [u8],
 ) -> bool {
-    let number = graph_name::graph_name_make_subgraph_of(out, held(bytes, sizes, OTHER));
-    number as u64 == n[0] && text::same(out, held(bytes, sizes, WANT))
-}
-
-// Whether `graph_name_add_translation_to` answers so.
-pub(crate) fn add_translation_to(
-    bytes: &[u8],
-    sizes: &[usize],
-    n: [u64; 12],
-    out: &mut [u8],
-) -> bool {
-    let number = graph_name::graph_name_add_translation_to(out, held(bytes, sizes, OTHER));
-    number as u64 == n[0] && text::same(out, held(bytes, sizes, WANT))
-}
-
-// Whether `graph_name_add_relationships` answers so.
-pub(crate) fn add_relationships(
-    bytes: &[u8],
-    sizes: &[usize],
-    n: [u64; 12],
-    out: &mut [u8],
-) -> bool {
-    let number = graph_name::graph_name_add_relationships(out, held(bytes, sizes, OTHER));
-    number as u64 == n[0] && text::same(out, held(bytes, sizes, WANT))
+    let other = held(bytes, sizes, OTHER);
+    let one = held(bytes, sizes, ONE);
+    let two = held(bytes, sizes, TWO);
+    is(n, 0, result(entry, out, other, one, two) as u64)
 }

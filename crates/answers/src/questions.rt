@@ -1,60 +1,45 @@
-// The path questions and the description, whose output is to come out as `want` says, and the strict reading. The line has the result,
-// and of a question its answer, of a description how many bytes were written.
+// The entries on records with an output and one number: header lines, path questions and the description. The line has the result, and of a
+// question its answer, of the others how many bytes were written.
+use crate::numbers::are_two;
 use listed::ONE;
 use listed::OTHER;
 use listed::RECORD;
 use listed::TWO;
 use listed::UNWRITTEN;
-use listed::WANT;
 use listed::held;
 
-// Whether `graph_name_is_subgraph_of` answers so.
-pub(crate) fn is_subgraph_of(bytes: &[u8], sizes: &[usize], n: [u64; 12], out: &mut [u8]) -> bool {
-    let mut answer = UNWRITTEN;
-    let number = graph_name::graph_name_is_subgraph_of(
-        held(bytes, sizes, RECORD),
-        held(bytes, sizes, OTHER),
-        out,
-        &mut answer,
-    );
-    let same = text::same(out, held(bytes, sizes, WANT));
-    number as u64 == n[0] && answer == n[1] && same
+// The result of the entry of a number: 15, 16, 18, 19 or 21.
+fn result<'a>(
+    entry: usize,
+    record: &'a [u8],
+    other: &'a [u8],
+    one: &[u8],
+    two: &[u8],
+    out: &mut [u8],
+    x: &mut u64,
+) -> u32 {
+    match entry {
+        15 => graph_name::graph_name_to_gfa_header_lines(record, out, x),
+        16 => graph_name::graph_name_to_gaf_header_lines(record, out, x),
+        18 => graph_name::graph_name_is_subgraph_of(record, other, out, x),
+        19 => graph_name::graph_name_translates_to(record, other, out, x),
+        _ => graph_name::graph_name_describe_relationship(record, other, one, two, out, x),
+    }
 }
 
-// Whether `graph_name_translates_to` answers so.
-pub(crate) fn translates_to(bytes: &[u8], sizes: &[usize], n: [u64; 12], out: &mut [u8]) -> bool {
-    let mut answer = UNWRITTEN;
-    let number = graph_name::graph_name_translates_to(
-        held(bytes, sizes, RECORD),
-        held(bytes, sizes, OTHER),
-        out,
-        &mut answer,
-    );
-    let same = text::same(out, held(bytes, sizes, WANT));
-    number as u64 == n[0] && answer == n[1] && same
-}
-
-// Whether `graph_name_check_strict` answers so.
-pub(crate) fn check_strict(bytes: &[u8], sizes: &[usize], n: [u64; 12]) -> bool {
-    graph_name::graph_name_check_strict(held(bytes, sizes, ONE)) == n[0]
-}
-
-// Whether `graph_name_describe_relationship` answers so.
-pub(crate) fn describe_relationship(
+// Whether the entry of a number answers with the numbers of a line.
+pub(crate) fn agrees(
+    entry: usize,
     bytes: &[u8],
     sizes: &[usize],
-    n: [u64; 12],
+    n: &[u8],
     out: &mut [u8],
 ) -> bool {
-    let mut written = UNWRITTEN;
-    let number = graph_name::graph_name_describe_relationship(
-        held(bytes, sizes, RECORD),
-        held(bytes, sizes, OTHER),
-        held(bytes, sizes, ONE),
-        held(bytes, sizes, TWO),
-        out,
-        &mut written,
-    );
-    let same = text::same(out, held(bytes, sizes, WANT));
-    number as u64 == n[0] && written == n[1] && same
+    let record = held(bytes, sizes, RECORD);
+    let other = held(bytes, sizes, OTHER);
+    let one = held(bytes, sizes, ONE);
+    let two = held(bytes, sizes, TWO);
+    let mut x = UNWRITTEN;
+    let result = result(entry, record, other, one, two, out, &mut x);
+    are_two(n, result, x)
 }

@@ -1,102 +1,111 @@
-// The entries that look at records. Each call is compared with the numbers of its line: the result, and the numbers that come out, in the
-// order of the function's parameters; a place that goes in comes last.
-use listed::OTHER;
-use listed::RECORD;
+// The entries that look at records and lines, and have no output. Each call is compared with the numbers of its line: the result, and the numbers
+// that come out, in the order of the function's parameters; a place that goes in comes last.
+use crate::numbers::are_four;
+use crate::numbers::are_seven;
+use crate::numbers::are_two;
+use crate::numbers::is;
 use listed::UNWRITTEN;
-use listed::held;
+use listed::number_at;
 
 // Whether `graph_name_counts` answers so.
-pub(crate) fn counts(bytes: &[u8], sizes: &[usize], n: [u64; 12]) -> bool {
+pub(crate) fn counts(record: &[u8], n: &[u8]) -> bool {
     let mut names = UNWRITTEN;
     let mut subgraph = UNWRITTEN;
     let mut translation = UNWRITTEN;
-    let number = graph_name::graph_name_counts(
-        held(bytes, sizes, RECORD),
-        &mut names,
-        &mut subgraph,
-        &mut translation,
-    );
-    number as u64 == n[0] && names == n[1] && subgraph == n[2] && translation == n[3]
+    let result = graph_name::graph_name_counts(record, &mut names, &mut subgraph, &mut translation);
+    are_four(n, result, names, subgraph, translation)
 }
 
 // Whether `graph_name_name` answers so.
-pub(crate) fn name(bytes: &[u8], sizes: &[usize], n: [u64; 12]) -> bool {
+pub(crate) fn name(record: &[u8], n: &[u8]) -> bool {
     let mut present = UNWRITTEN;
     let mut start = UNWRITTEN;
     let mut length = UNWRITTEN;
-    let number = graph_name::graph_name_name(
-        held(bytes, sizes, RECORD),
-        &mut present,
-        &mut start,
-        &mut length,
-    );
-    number as u64 == n[0] && present == n[1] && start == n[2] && length == n[3]
+    let result = graph_name::graph_name_name(record, &mut present, &mut start, &mut length);
+    are_four(n, result, present, start, length)
 }
 
 // Whether `graph_name_name_at` answers so.
-pub(crate) fn name_at(bytes: &[u8], sizes: &[usize], n: [u64; 12]) -> bool {
+pub(crate) fn name_at(record: &[u8], n: &[u8]) -> bool {
     let mut present = UNWRITTEN;
     let mut start = UNWRITTEN;
     let mut length = UNWRITTEN;
-    let number = graph_name::graph_name_name_at(
-        held(bytes, sizes, RECORD),
-        n[4],
+    let result = graph_name::graph_name_name_at(
+        record,
+        number_at(n, 4),
         &mut present,
         &mut start,
         &mut length,
     );
-    number as u64 == n[0] && present == n[1] && start == n[2] && length == n[3]
+    are_four(n, result, present, start, length)
 }
 
 // Whether `graph_name_subgraph_at` answers so.
-pub(crate) fn subgraph_at(bytes: &[u8], sizes: &[usize], n: [u64; 12]) -> bool {
+pub(crate) fn subgraph_at(record: &[u8], n: &[u8]) -> bool {
     let mut present = UNWRITTEN;
     let mut from_start = UNWRITTEN;
     let mut from_length = UNWRITTEN;
     let mut to_start = UNWRITTEN;
     let mut to_length = UNWRITTEN;
-    let number = graph_name::graph_name_subgraph_at(
-        held(bytes, sizes, RECORD),
-        n[6],
+    let place = number_at(n, 6);
+    let result = graph_name::graph_name_subgraph_at(
+        record,
+        place,
         &mut present,
         &mut from_start,
         &mut from_length,
         &mut to_start,
         &mut to_length,
     );
-    let from = from_start == n[2] && from_length == n[3];
-    let to = to_start == n[4] && to_length == n[5];
-    number as u64 == n[0] && present == n[1] && from && to
+    are_seven(
+        n,
+        result,
+        present,
+        from_start,
+        from_length,
+        to_start,
+        to_length,
+        place,
+    )
 }
 
 // Whether `graph_name_translation_at` answers so.
-pub(crate) fn translation_at(bytes: &[u8], sizes: &[usize], n: [u64; 12]) -> bool {
+pub(crate) fn translation_at(record: &[u8], n: &[u8]) -> bool {
     let mut present = UNWRITTEN;
     let mut from_start = UNWRITTEN;
     let mut from_length = UNWRITTEN;
     let mut to_start = UNWRITTEN;
     let mut to_length = UNWRITTEN;
-    let number = graph_name::graph_name_translation_at(
-        held(bytes, sizes, RECORD),
-        n[6],
+    let place = number_at(n, 6);
+    let result = graph_name::graph_name_translation_at(
+        record,
+        place,
         &mut present,
         &mut from_start,
         &mut from_length,
         &mut to_start,
         &mut to_length,
     );
-    let from = from_start == n[2] && from_length == n[3];
-    let to = to_start == n[4] && to_length == n[5];
-    number as u64 == n[0] && present == n[1] && from && to
+    are_seven(
+        n,
+        result,
+        present,
+        from_start,
+        from_length,
+        to_start,
+        to_length,
+        place,
+    )
 }
 
 // Whether `graph_name_is_same` answers so.
-pub(crate) fn is_same(bytes: &[u8], sizes: &[usize], n: [u64; 12]) -> bool {
+pub(crate) fn is_same(record: &[u8], other: &[u8], n: &[u8]) -> bool {
     let mut answer = UNWRITTEN;
-    let number = graph_name::graph_name_is_same(
-        held(bytes, sizes, RECORD),
-        held(bytes, sizes, OTHER),
-        &mut answer,
-    );
-    number as u64 == n[0] && answer == n[1]
+    let result = graph_name::graph_name_is_same(record, other, &mut answer);
+    are_two(n, result, answer)
+}
+
+// Whether `graph_name_check_strict` answers so.
+pub(crate) fn check_strict(line: &[u8], n: &[u8]) -> bool {
+    is(n, 0, graph_name::graph_name_check_strict(line))
 }

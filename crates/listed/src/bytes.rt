@@ -4,6 +4,7 @@ use crate::lines::number;
 use crate::lines::past;
 use crate::lines::upto;
 ghost use Prim.Native.Nat.{_<_};
+ghost use lib.ListN.{length};
 
 // Writes a byte, if there is room, and gives the place behind it.
 fn put(out: &mut [u8], at: usize, x: u8) -> usize {
@@ -50,12 +51,44 @@ fn digit(x: u8) -> u8
     }
 }
 
-// The byte of the two hexadecimal digits at a place.
-fn pair_at(s: &[u8], at: usize) -> u8 {
-    if at < s.len() && at + 1 < s.len() {
-        return 16 * digit(s[at]) + digit(s[at + 1]);
+// The byte that stands at a place of s by itself: a tab, the end of a line, or that of two hexadecimal digits.
+fn byte_at(s: &[u8], i: usize) -> u8
+    requires { ⌜ i < length (now s) ⌝ }
+{
+    match s[i] {
+        b't' => b'\t',
+        b'n' => b'\n',
+        x => {
+            if i + 1 < s.len() {
+                return 16 * digit(x) + digit(s[i + 1]);
+            }
+            0
+        }
     }
-    0
+}
+
+// Writes what stands at a place of s, and gives the place behind what was written.
+fn put_next(out: &mut [u8], at: usize, s: &[u8], i: usize) -> usize
+    requires { ⌜ i < length (now s) ⌝ }
+{
+    match s[i] {
+        b'"' => put_all(out, at, upto(s, i + 1, b'"')),
+        b'*' => repeat(out, at, number(upto(s, i + 1, b'.')) as usize),
+        _ => put(out, at, byte_at(s, i)),
+    }
+}
+
+// The place behind what stands at a place of s.
+fn next(s: &[u8], i: usize) -> usize
+    requires { ⌜ i < length (now s) ⌝ }
+    ensures { λ r. ⌜ i < r ⌝ }
+{
+    match s[i] {
+        b'"' => past(s, i + 1, b'"'),
+        b'*' => past(s, i + 1, b'.'),
+        b't' | b'n' => i + 1,
+        _ => i + 2,
+    }
 }
 
 // Writes the bytes that s stands for to the front of the output, and gives their number.
@@ -63,28 +96,8 @@ pub fn read_bytes(s: &[u8], out: &mut [u8]) -> usize {
     let mut i = 0;
     let mut at = 0;
     while i < s.len() {
-        match s[i] {
-            b'"' => {
-                at = put_all(out, at, upto(s, i + 1, b'"'));
-                i = past(s, i + 1, b'"');
-            }
-            b'*' => {
-                at = repeat(out, at, number(upto(s, i + 1, b'.')) as usize);
-                i = past(s, i + 1, b'.');
-            }
-            b't' => {
-                at = put(out, at, b'\t');
-                i += 1;
-            }
-            b'n' => {
-                at = put(out, at, b'\n');
-                i += 1;
-            }
-            _ => {
-                at = put(out, at, pair_at(s, i));
-                i += 2;
-            }
-        }
+        at = put_next(out, at, s, i);
+        i = next(s, i);
     }
     at
 }

@@ -85,15 +85,17 @@ pub fn set_same(bytes: &mut [u8], sizes: &mut [usize], place: usize, from: usize
     sizes[place] = sizes[from];
 }
 
+// The length of the one at a place; 0 past the last.
+fn size_at(sizes: &[usize], place: usize) -> usize {
+    if place < sizes.len() {
+        return sizes[place];
+    }
+    0
+}
+
 // The one at a place.
 pub fn held<'a>(bytes: &'a [u8], sizes: &[usize], place: usize) -> &'a [u8] {
-    if 10 < place {
-        return text::part(bytes, 0, 0);
-    }
-    if sizes.len() <= place {
-        return text::part(bytes, 0, 0);
-    }
-    text::part(bytes, 47616 * place, sizes[place])
+    text::part(bytes, 47616 * (place % 11), size_at(sizes, place))
 }
 
 // Copies one to the front of an output, if it fits, and gives its length.

@@ -70,13 +70,16 @@ pub fn number(word: &[u8]) -> u64 {
     n
 }
 
-// The first 12 numbers of a line, with a space after each; 0 for those that are not there.
-pub fn numbers(line: &[u8]) -> [u64; 12] {
-    let mut n = [0; 12];
+// What is behind the first word of a line.
+pub fn rest(line: &[u8]) -> &[u8] {
+    text::part(line, past(line, 0, b' '), line.len())
+}
+
+// The number at a place, from 0, among those of a line, with a space after each; 0 if it is not there.
+pub fn number_at(line: &[u8], place: usize) -> u64 {
     let mut at = 0;
-    for i in 0..12 {
-        n[i] = number(upto(line, at, b' '));
+    for _ in 0..place {
         at = past(line, at, b' ');
     }
-    n
+    number(upto(line, at, b' '))
 }

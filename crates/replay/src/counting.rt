@@ -1,5 +1,5 @@
-// Counts for each entry and in total: cases, mismatches, answers that are wrong on purpose, and those of them that were noticed. And how
-// often each number from 0 to 18 is the result that is wanted.
+// Counts for each entry and in total: cases, mismatches, answers that are wrong on purpose, and those of them that were noticed. And behind
+// them how often each number from 0 to 18 is the result that is wanted.
 use libc::STDOUT_FILENO;
 use listed::past;
 use listed::upto;
@@ -9,32 +9,29 @@ ghost use lib.ListN.{length};
 // The place of the total among the entries.
 const TOTAL: usize = 23;
 
+// The place of the first number's count.
+const RESULTS: usize = 96;
+
 // Writes to standard output.
 pub(crate) fn print(s: &[u8]) {
     io::write_all(STDOUT_FILENO, s);
 }
 
-// Writes a number in decimal.
-pub(crate) fn print_number(n: usize) {
+// Writes a number in decimal, and a text behind it.
+pub(crate) fn print_number(n: usize, s: &[u8]) {
     io::print_decimal(STDOUT_FILENO, n as u64);
+    print(s);
 }
 
-// Four counts for each of at most 22 entries, for lines with the name of none, and for the total.
-pub(crate) fn entry_counts() -> [usize; 96]
-    ensures { λ r. ⌜ 96 ≡ length r ⌝ }
+// Four counts for each of at most 22 entries, for lines with the name of none, and for the total; and 19 for the numbers.
+pub(crate) fn all_counts() -> [usize; 115]
+    ensures { λ r. ⌜ 115 ≡ length r ⌝ }
 {
-    [0; 96]
-}
-
-// A count for each number.
-pub(crate) fn number_counts() -> [usize; 19]
-    ensures { λ r. ⌜ 19 ≡ length r ⌝ }
-{
-    [0; 19]
+    [0; 115]
 }
 
 // Counts one more at a place.
-pub(crate) fn count(counts: &mut [usize], place: usize) {
+fn count(counts: &mut [usize], place: usize) {
     if place < counts.len() {
         let n = counts[place];
         if n < 1000000 {
@@ -68,19 +65,25 @@ pub(crate) fn count_entry(counts: &mut [usize], entry: usize, kind: usize) {
     count(counts, 4 * TOTAL + kind);
 }
 
-// The counts of an entry, on a line.
-fn print_entry(counts: &[usize], entry: usize) {
+// Counts a result that is wanted.
+pub(crate) fn count_result(counts: &mut [usize], wanted: u64) {
+    if wanted < 19 {
+        count(counts, RESULTS + wanted as usize);
+    }
+}
+
+// The counts of an entry, on a line behind its name.
+fn print_entry(counts: &[usize], name: &[u8], entry: usize) {
     if TOTAL < entry {
         return;
     }
-    print_number(at(counts, 4 * entry));
-    print(b" cases, ");
-    print_number(at(counts, 4 * entry + 1));
-    print(b" mismatches; wrong on purpose ");
-    print_number(at(counts, 4 * entry + 2));
-    print(b", noticed ");
-    print_number(at(counts, 4 * entry + 3));
-    print(b"\n");
+    print(name);
+    print(b" ");
+    let first = 4 * entry;
+    print_number(at(counts, first), b" cases, ");
+    print_number(at(counts, first + 1), b" mismatches; wrong on purpose ");
+    print_number(at(counts, first + 2), b", noticed ");
+    print_number(at(counts, first + 3), b"\n");
 }
 
 // The counts of all entries, whose names stand in a list of words, and the total.
@@ -88,24 +91,27 @@ pub(crate) fn print_entries(names: &[u8], counts: &[usize]) {
     let mut from = 0;
     let mut entry = 0;
     while from < names.len() {
-        print(upto(names, from, b' '));
-        print(b" ");
-        print_entry(counts, entry);
+        print_entry(counts, upto(names, from, b' '), entry);
         from = past(names, from, b' ');
         entry += 1;
     }
-    print(b"total ");
-    print_entry(counts, TOTAL);
+    print_entry(counts, b"total", TOTAL);
+}
+
+// How often a number is wanted.
+fn print_result(counts: &[usize], n: usize) {
+    if n < 19 {
+        print(b" ");
+        print_number(n, b":");
+        print_number(at(counts, RESULTS + n), b"");
+    }
 }
 
 // How often each number is wanted, on a line.
-pub(crate) fn print_numbers(counts: &[usize]) {
+pub(crate) fn print_results(counts: &[usize]) {
     print(b"results");
-    for i in 0..19 {
-        print(b" ");
-        print_number(i);
-        print(b":");
-        print_number(at(counts, i));
+    for n in 0..19 {
+        print_result(counts, n);
     }
     print(b"\n");
 }

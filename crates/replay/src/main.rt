@@ -14,21 +14,22 @@ fn list_buffer() -> [u8; 524288]
     [0; 524288]
 }
 
-// Replays a list.
-fn replay(list: &[u8]) {
-    let mut holder_space = listed::holder_buffer();
-    let bytes: &mut [u8] = &mut holder_space;
-    let mut size_space = listed::holder_sizes();
-    let sizes: &mut [usize] = &mut size_space;
-    let mut count_space = counting::entry_counts();
-    let counts: &mut [usize] = &mut count_space;
-    let mut result_space = counting::number_counts();
-    let results: &mut [usize] = &mut result_space;
+// Replays a list with room for the byte strings that it sets and their sizes, and prints the counts.
+fn count(list: &[u8], bytes: &mut [u8], sizes: &mut [usize]) {
     let names =
         b"counts name name_at subgraph_at translation_at is_same new add_subgraph add_translation make_subgraph_of add_translation_to add_relationships from_header_lines from_tags error_message to_gfa_header_lines to_gaf_header_lines set_tags is_subgraph_of translates_to check_strict describe_relationship ";
-    replaying::take_all(names, list, bytes, sizes, counts, results);
+    let mut space = counting::all_counts();
+    let counts: &mut [usize] = &mut space;
+    replaying::take_all(names, list, bytes, sizes, counts);
     counting::print_entries(names, counts);
-    counting::print_numbers(results);
+    counting::print_results(counts);
+}
+
+// Replays a list.
+fn replay(list: &[u8]) {
+    let mut space = listed::holder_buffer();
+    let mut size_space = listed::holder_sizes();
+    count(list, &mut space, &mut size_space);
 }
 
 fn main() {

@@ -1,15 +1,16 @@
 // Takes the lines of the list one by one: sets what a line sets, and makes the call of a line with an entry's name.
-use crate::counting::count;
 use crate::counting::count_entry;
+use crate::counting::count_result;
 use crate::counting::mismatches;
 use crate::counting::print;
 use crate::counting::print_number;
 use answers::STRICT;
 use answers::agrees;
 use listed::holder;
-use listed::numbers;
+use listed::number_at;
 use listed::past;
 use listed::place_of;
+use listed::rest;
 use listed::set;
 use listed::set_same;
 use listed::upto;
@@ -18,8 +19,7 @@ use listed::upto;
 fn print_line(counts: &[usize], number: usize, line: &[u8]) {
     if mismatches(counts) < 20 {
         print(b"line ");
-        print_number(number);
-        print(b" is not so: ");
+        print_number(number, b" is not so: ");
         print(line);
         print(b"\n");
     }
@@ -42,43 +42,66 @@ fn count_wrong(counts: &mut [usize], entry: usize, agreed: bool) {
     }
 }
 
-// Counts the result that a line wants; not that of the strict reading, which is no refusal's number.
-fn count_result(results: &mut [usize], entry: usize, wanted: u64) {
-    if entry != STRICT {
-        count(results, wanted as usize);
-    }
-}
-
-// Makes the call of a line that begins with an entry's name, or with `!` and that name if it is wrong on purpose. A line with another
-// word is a mismatch.
+// Makes the call of a line that begins with an entry's name. A line with another word is a mismatch. The result that the line wants is
+// counted; not that of the strict reading, which is no refusal's number.
 fn call(
     names: &[u8],
     bytes: &[u8],
     sizes: &[usize],
     counts: &mut [usize],
-    results: &mut [usize],
     number: usize,
     line: &[u8],
 ) {
-    let word = upto(line, 0, b' ');
-    let n = numbers(text::part(line, word.len() + 1, line.len()));
-    if text::same(text::part(word, 0, 1), b"!") {
-        let entry = place_of(names, text::part(word, 1, word.len()));
-        count_wrong(counts, entry, agrees(entry, bytes, sizes, n));
-        return;
-    }
-    let entry = place_of(names, word);
+    let entry = place_of(names, upto(line, 0, b' '));
+    let n = rest(line);
     count_right(counts, entry, agrees(entry, bytes, sizes, n), number, line);
-    count_result(results, entry, n[0]);
+    if entry != STRICT {
+        count_result(counts, number_at(n, 0));
+    }
+}
+
+// Makes the call of a line that is wrong on purpose: the line behind its `!`.
+fn call_wrong(names: &[u8], bytes: &[u8], sizes: &[usize], counts: &mut [usize], line: &[u8]) {
+    let entry = place_of(names, upto(line, 0, b' '));
+    count_wrong(counts, entry, agrees(entry, bytes, sizes, rest(line)));
+}
+
+// The byte at the front; `#` if there is none.
+fn first(s: &[u8]) -> u8 {
+    if s.len() == 0 {
+        return b'#';
+    }
+    s[0]
+}
+
+// What is behind the first byte.
+fn tail(s: &[u8]) -> &[u8] {
+    text::part(s, 1, s.len())
 }
 
 // Sets the byte string at a place as a line says: to that of a name behind `=`, or to bytes.
 fn set_as(bytes: &mut [u8], sizes: &mut [usize], place: usize, s: &[u8]) {
-    if text::same(text::part(s, 0, 1), b"=") {
-        set_same(bytes, sizes, place, holder(text::part(s, 1, s.len())));
+    if first(s) == b'=' {
+        set_same(bytes, sizes, place, holder(tail(s)));
         return;
     }
     set(bytes, sizes, place, s);
+}
+
+// Takes a line that calls: one that begins with `!` is wrong on purpose.
+fn take_call(
+    names: &[u8],
+    bytes: &[u8],
+    sizes: &[usize],
+    counts: &mut [usize],
+    number: usize,
+    line: &[u8],
+) {
+    if first(line) == b'!' {
+        call_wrong(names, bytes, sizes, counts, tail(line));
+        return;
+    }
+    call(names, bytes, sizes, counts, number, line);
 }
 
 // Takes one line: an empty one, or one that begins with `#`, says nothing.
@@ -87,28 +110,18 @@ fn take(
     bytes: &mut [u8],
     sizes: &mut [usize],
     counts: &mut [usize],
-    results: &mut [usize],
     number: usize,
     line: &[u8],
 ) {
-    if line.len() == 0 {
+    if first(line) == b'#' {
         return;
     }
-    if line[0] == b'#' {
-        return;
-    }
-    let word = upto(line, 0, b' ');
-    let place = holder(word);
+    let place = holder(upto(line, 0, b' '));
     if place < 11 {
-        set_as(
-            bytes,
-            sizes,
-            place,
-            text::part(line, word.len() + 1, line.len()),
-        );
+        set_as(bytes, sizes, place, rest(line));
         return;
     }
-    call(names, bytes, sizes, counts, results, number, line);
+    take_call(names, bytes, sizes, counts, number, line);
 }
 
 // Takes all lines of the list.
@@ -118,20 +131,12 @@ pub(crate) fn take_all(
     bytes: &mut [u8],
     sizes: &mut [usize],
     counts: &mut [usize],
-    results: &mut [usize],
 ) {
     let mut from = 0;
     let mut number = 1;
     while from < list.len() {
-        take(
-            names,
-            bytes,
-            sizes,
-            counts,
-            results,
-            number,
-            upto(list, from, b'\n'),
-        );
+        let line = upto(list, from, b'\n');
+        take(names, bytes, sizes, counts, number, line);
         from = past(list, from, b'\n');
         number += 1;
     }

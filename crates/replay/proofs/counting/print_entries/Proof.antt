@@ -1,37 +1,27 @@
 -- Each name takes at least one byte, so that its place is at most the byte's.
-use native.Mathlib.Omega.{arith}
 use borrow.Author.Needs.{needs}
+use native.Mathlib.Omega.{arith}
 use Prim.Native.Nat.{_-_, _≤_}
 use lib.ListN.{length}
 use Rattle.replay.proofs.counting.print_entries.Statement.{statement}
 use Rattle.replay.proofs.counting.print_entries.Tie as tie
 use Rattle.replay.proofs.counting.print_entries.Reads as reads
 use Rattle.replay.proofs.counting.print_entries.Lts as lts
-use Rattle.replay.proofs.counting.print.Reads as print-reads
-use Rattle.replay.proofs.counting.print_entry.Reads as print-entry-reads
 use Rattle.listed.proofs.past.Reads as past-reads
 use Rattle.listed.proofs.upto.Reads as upto-reads
+use Rattle.replay.proofs.counting.print_entry.Reads as print-entry-reads
 
 abbrev Inv-loop : tie.InvT-loop
-Inv-loop names counts from₀ entry₀ t5 t6 from entry = entry ≤ from
+Inv-loop names counts from₀ entry₀ t5 from entry = entry ≤ from
 
 abbrev μ-loop : tie.MeasureT-loop
-μ-loop names counts from₀ entry₀ t5 t6 from entry = length names - from
+μ-loop names counts from₀ entry₀ t5 from entry = length names - from
 
 loop-holds : tie.Need-loop-holds Inv-loop μ-loop
 loop-holds c = search needs
 
 upto-requires : tie.Need-upto-requires Inv-loop μ-loop
 upto-requires c κs = search needs
-
-print-requires : tie.Need-print-requires Inv-loop μ-loop
-print-requires c κs = search needs
-
-slice-aggregate-print : tie.Need-slice-aggregate-print Inv-loop μ-loop
-slice-aggregate-print c = search needs
-
-print-requires-2 : tie.Need-print-requires-2 Inv-loop μ-loop
-print-requires-2 c κs = search needs
 
 print-entry-requires : tie.Need-print-entry-requires Inv-loop μ-loop
 print-entry-requires c κs = search needs
@@ -48,11 +38,8 @@ loop-less c = omega (arith, c .past .ensures .1 (search needs))
 loop-again : tie.Need-loop-again Inv-loop μ-loop
 loop-again c = omega (arith, c .past .ensures .1 (search needs))
 
-slice-aggregate-print-2 : tie.Need-slice-aggregate-print-2 Inv-loop μ-loop
-slice-aggregate-print-2 c = search needs
-
-print-requires-3 : tie.Need-print-requires-3 Inv-loop μ-loop
-print-requires-3 c κs = search needs
+slice-aggregate-print-entry : tie.Need-slice-aggregate-print-entry Inv-loop μ-loop
+slice-aggregate-print-entry c = search needs
 
 print-entry-requires-2 : tie.Need-print-entry-requires-2 Inv-loop μ-loop
 print-entry-requires-2 c κs = search needs
@@ -68,15 +55,11 @@ print-entries-spec =
     μ-loop
     loop-holds
     upto-requires
-    print-requires
-    slice-aggregate-print
-    print-requires-2
     print-entry-requires
     past-requires
     add-entry
     loop-less
     loop-again
-    slice-aggregate-print-2
-    print-requires-3
+    slice-aggregate-print-entry
     print-entry-requires-2
     returns)

@@ -1,6 +1,6 @@
 -- Each line takes at least one byte, so that its number is at most one more than the byte's; the buffers keep their lengths.
-use native.Mathlib.Omega.{arith}
 use borrow.Author.Needs.{needs}
+use native.Mathlib.Omega.{arith}
 use Prim.Native.Nat.{_+_, _-_, _≤_}
 use lib.ListN.{length}
 use mathlib.Core.Path.{_≡_}
@@ -13,10 +13,10 @@ use Rattle.listed.proofs.upto.Reads as upto-reads
 use Rattle.replay.proofs.replaying.take.Reads as take-reads
 
 abbrev Inv-loop : tie.InvT-loop
-Inv-loop names list bytes₀ sizes₀ counts₀ results₀ from₀ number₀ bytes sizes counts results from number = (number ≤ from + 1) × (length bytes ≡ length bytes₀) × (length sizes ≡ length sizes₀) × (length counts ≡ length counts₀) × (length results ≡ length results₀)
+Inv-loop names list bytes₀ sizes₀ counts₀ from₀ number₀ bytes sizes counts from number = (number ≤ from + 1) × (length bytes ≡ length bytes₀) × (length sizes ≡ length sizes₀) × (length counts ≡ length counts₀)
 
 abbrev μ-loop : tie.MeasureT-loop
-μ-loop names list bytes₀ sizes₀ counts₀ results₀ from₀ number₀ bytes sizes counts results from number = length list - from
+μ-loop names list bytes₀ sizes₀ counts₀ from₀ number₀ bytes sizes counts from number = length list - from
 
 loop-holds : tie.Need-loop-holds Inv-loop μ-loop
 loop-holds c = search needs
@@ -37,7 +37,7 @@ loop-less : tie.Need-loop-less Inv-loop μ-loop
 loop-less c = omega (arith, c .past .ensures .1 (search needs))
 
 loop-again : tie.Need-loop-again Inv-loop μ-loop
-loop-again c = (omega (arith, c .past .ensures .1 (search needs)), search needs, search needs, search needs, search needs)
+loop-again c = (omega (arith, c .past .ensures .1 (search needs)), search needs, search needs, search needs)
 
 same-length : tie.Need-same-length Inv-loop μ-loop
 same-length c = search needs
@@ -47,9 +47,6 @@ same-length-2 c = search needs
 
 same-length-3 : tie.Need-same-length-3 Inv-loop μ-loop
 same-length-3 c = search needs
-
-same-length-4 : tie.Need-same-length-4 Inv-loop μ-loop
-same-length-4 c = search needs
 
 returns : tie.Need-returns Inv-loop μ-loop
 returns c = search needs
@@ -70,5 +67,4 @@ take-all-spec =
     same-length
     same-length-2
     same-length-3
-    same-length-4
     returns)
