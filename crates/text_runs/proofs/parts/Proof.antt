@@ -8,10 +8,10 @@ use Rattle.text_runs.proofs.parts.Statement.{statement}
 use Rattle.text_runs.proofs.parts.Tie as tie
 
 abbrev Inv-loop : tie.InvT-loop
-Inv-loop s sep from₀ t5 t6 t7 from = from ≤ length s + 1
+Inv-loop s sep from₀ t5 from = from ≤ length s + 1
 
 abbrev μ-loop : tie.MeasureT-loop
-μ-loop s sep from₀ t5 t6 t7 from = length s + 1 - from
+μ-loop s sep from₀ t5 from = length s + 1 - from
 
 -- the separator found, or the end
 within : (c : tie.After-find-byte Inv-loop μ-loop) → c .find-byte .result ≤ length (c .before .before .before .before .args .s .now)
@@ -25,44 +25,26 @@ loop-holds c = search needs
 find-byte-requires : tie.Need-find-byte-requires Inv-loop μ-loop
 find-byte-requires c κs = search needs
 
-print-number-requires : tie.Need-print-number-requires Inv-loop μ-loop
-print-number-requires c κs = search needs
+sub-print-part : tie.Need-sub-print-part Inv-loop μ-loop
+sub-print-part c = search needs
+
+print-part-requires : tie.Need-print-part-requires Inv-loop μ-loop
+print-part-requires c κs = search needs
+
+add-from : tie.Need-add-from Inv-loop μ-loop
+add-from c = omega (arith, within (c .before))
+
+loop-less : tie.Need-loop-less Inv-loop μ-loop
+loop-less c = search needs
+
+loop-again : tie.Need-loop-again Inv-loop μ-loop
+loop-again c = omega (arith, within (c .before))
 
 slice-aggregate-print : tie.Need-slice-aggregate-print Inv-loop μ-loop
 slice-aggregate-print c = search needs
 
 print-requires : tie.Need-print-requires Inv-loop μ-loop
 print-requires c κs = search needs
-
-sub-part : tie.Need-sub-part Inv-loop μ-loop
-sub-part c = search needs
-
-part-requires : tie.Need-part-requires Inv-loop μ-loop
-part-requires c κs = search needs
-
-print-requires-2 : tie.Need-print-requires-2 Inv-loop μ-loop
-print-requires-2 c κs = search needs
-
-slice-aggregate-print-2 : tie.Need-slice-aggregate-print-2 Inv-loop μ-loop
-slice-aggregate-print-2 c = search needs
-
-print-requires-3 : tie.Need-print-requires-3 Inv-loop μ-loop
-print-requires-3 c κs = search needs
-
-add-from : tie.Need-add-from Inv-loop μ-loop
-add-from c = omega (arith, within (c .before .before .before .before .before .before .before))
-
-loop-less : tie.Need-loop-less Inv-loop μ-loop
-loop-less c = search needs
-
-loop-again : tie.Need-loop-again Inv-loop μ-loop
-loop-again c = omega (arith, within (c .before .before .before .before .before .before .before))
-
-slice-aggregate-print-3 : tie.Need-slice-aggregate-print-3 Inv-loop μ-loop
-slice-aggregate-print-3 c = search needs
-
-print-requires-4 : tie.Need-print-requires-4 Inv-loop μ-loop
-print-requires-4 c κs = search needs
 
 returns : tie.Need-returns Inv-loop μ-loop
 returns c = search needs
@@ -75,17 +57,11 @@ parts-spec =
     μ-loop
     loop-holds
     find-byte-requires
-    print-number-requires
-    slice-aggregate-print
-    print-requires
-    sub-part
-    part-requires
-    print-requires-2
-    slice-aggregate-print-2
-    print-requires-3
+    sub-print-part
+    print-part-requires
     add-from
     loop-less
     loop-again
-    slice-aggregate-print-3
-    print-requires-4
+    slice-aggregate-print
+    print-requires
     returns)
