@@ -1,7 +1,14 @@
 // Replays the fixed list of the oracle's answers, which stands on standard input: makes each of its calls, compares what comes out, and
 // prints the lines that are not so and the counts. The list says how it was made and what its lines mean.
 mod counting;
+mod edits;
+mod entries;
+mod numbers;
+mod questions;
+mod records;
 mod replaying;
+mod tags;
+mod texts;
 
 use libc::STDIN_FILENO;
 ghost use mathlib.Core.Path.{_≡_};

@@ -1,4 +1,5 @@
-// The entries by number, in the order of their names in the program `replay`.
+// The exported functions, called on the byte strings that the list sets: the entries by number, in the order of their names in `main.rt`. What
+// comes out is compared with the numbers of a line, lent as the line has them, and with the byte strings that the outputs are to be.
 use crate::edits;
 use crate::questions;
 use crate::records;
@@ -13,7 +14,7 @@ use listed::held;
 use listed::load;
 
 // The number of the strict reading.
-pub const STRICT: usize = 20;
+pub(crate) const STRICT: usize = 20;
 
 // Whether the entry of a number, one with no output, answers with the numbers of a line.
 fn with_none(entry: usize, bytes: &[u8], sizes: &[usize], n: &[u8]) -> bool {
@@ -52,7 +53,7 @@ fn with_one(entry: usize, bytes: &[u8], sizes: &[usize], n: &[u8]) -> bool {
 }
 
 // Whether the entry of a number, on what is set, answers with the numbers of a line.
-pub fn agrees(entry: usize, bytes: &[u8], sizes: &[usize], n: &[u8]) -> bool {
+pub(crate) fn agrees(entry: usize, bytes: &[u8], sizes: &[usize], n: &[u8]) -> bool {
     match entry {
         0..=5 | STRICT => with_none(entry, bytes, sizes, n),
         17 => tags::agrees(bytes, sizes, n),
