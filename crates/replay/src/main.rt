@@ -21,10 +21,8 @@ fn list_buffer() -> [u8; 524288]
     [0; 524288]
 }
 
-// Replays a list with room for the byte strings that it sets and their sizes, and prints the counts.
-fn count(list: &[u8], bytes: &mut [u8], sizes: &mut [usize]) {
-    let names =
-        b"counts name name_at subgraph_at translation_at is_same new add_subgraph add_translation make_subgraph_of add_translation_to add_relationships from_header_lines from_tags error_message to_gfa_header_lines to_gaf_header_lines set_tags is_subgraph_of translates_to check_strict describe_relationship ";
+// Replays a list with the names of the entries, and room for the byte strings that it sets and their sizes; prints the counts.
+fn count(names: &[u8], list: &[u8], bytes: &mut [u8], sizes: &mut [usize]) {
     let mut space = counting::all_counts();
     let counts: &mut [usize] = &mut space;
     replaying::take_all(names, list, bytes, sizes, counts);
@@ -36,7 +34,12 @@ fn count(list: &[u8], bytes: &mut [u8], sizes: &mut [usize]) {
 fn replay(list: &[u8]) {
     let mut space = listed::holder_buffer();
     let mut size_space = listed::holder_sizes();
-    count(list, &mut space, &mut size_space);
+    count(
+        b"counts name name_at subgraph_at translation_at is_same new add_subgraph add_translation make_subgraph_of add_translation_to add_relationships from_header_lines from_tags error_message to_gfa_header_lines to_gaf_header_lines set_tags is_subgraph_of translates_to check_strict describe_relationship ",
+        list,
+        &mut space,
+        &mut size_space,
+    );
 }
 
 fn main() {
