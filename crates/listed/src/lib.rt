@@ -1,9 +1,20 @@
-// The lines of the fixed list of answers: words, numbers and bytes, and the byte strings that it sets by name.
+// The fixed list of answers: its lines, which are words, numbers and bytes, the byte strings that it sets by name, the numbers of a call held to
+// those of its line, and the counts of what agreed.
 mod bytes;
+mod counting;
 mod holders;
 mod lines;
+mod numbers;
 
 pub use bytes::read_bytes;
+pub use counting::all_counts;
+pub use counting::count_entry;
+pub use counting::count_result;
+pub use counting::mismatches;
+pub use counting::print;
+pub use counting::print_entries;
+pub use counting::print_number;
+pub use counting::print_results;
 pub use holders::ONE;
 pub use holders::OTHER;
 pub use holders::OUT;
@@ -28,3 +39,8 @@ pub use lines::past;
 pub use lines::place_of;
 pub use lines::rest;
 pub use lines::upto;
+pub use numbers::are_four;
+pub use numbers::are_seven;
+pub use numbers::are_two;
+pub use numbers::is;
+pub use numbers::narrow;

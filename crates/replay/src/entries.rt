@@ -1,44 +1,27 @@
 // The exported functions, called on the byte strings that the list sets: the entries by number, in the order of their names in `main.rt`. What
 // comes out is compared with the numbers of a line, lent as the line has them, and with the byte strings that the outputs are to be.
-use crate::edits;
-use crate::questions;
-use crate::records;
-use crate::tags;
-use crate::texts;
-use listed::ONE;
-use listed::OTHER;
 use listed::OUT;
-use listed::RECORD;
 use listed::WANT;
 use listed::held;
 use listed::load;
+use test_records::edit_agrees;
+use test_records::record_agrees;
+use test_texts::question_agrees;
+use test_texts::tags_agree;
+use test_texts::text_agrees;
 
 // The number of the strict reading.
 pub(crate) const STRICT: usize = 20;
 
-// Whether the entry of a number, one with no output, answers with the numbers of a line.
-fn with_none(entry: usize, bytes: &[u8], sizes: &[usize], n: &[u8]) -> bool {
-    let record = held(bytes, sizes, RECORD);
-    match entry {
-        0 => records::counts(record, n),
-        1 => records::name(record, n),
-        2 => records::name_at(record, n),
-        3 => records::subgraph_at(record, n),
-        4 => records::translation_at(record, n),
-        5 => records::is_same(record, held(bytes, sizes, OTHER), n),
-        _ => records::check_strict(held(bytes, sizes, ONE), n),
-    }
-}
-
 // Whether the entry of a number, one with an output that is as it is before the call, answers with the numbers of a line.
 fn answered(entry: usize, bytes: &[u8], sizes: &[usize], n: &[u8], out: &mut [u8]) -> bool {
     if entry < 12 {
-        return edits::agrees(entry, bytes, sizes, n, out);
+        return edit_agrees(entry, bytes, sizes, n, out);
     }
     if entry < 15 {
-        return texts::agrees(entry, bytes, sizes, n, out);
+        return text_agrees(entry, bytes, sizes, n, out);
     }
-    questions::agrees(entry, bytes, sizes, n, out)
+    question_agrees(entry, bytes, sizes, n, out)
 }
 
 // Whether it does, and the output, which is copied to a room of its own for the call, comes out as `want` says.
@@ -55,8 +38,8 @@ fn with_one(entry: usize, bytes: &[u8], sizes: &[usize], n: &[u8]) -> bool {
 // Whether the entry of a number, on what is set, answers with the numbers of a line.
 pub(crate) fn agrees(entry: usize, bytes: &[u8], sizes: &[usize], n: &[u8]) -> bool {
     match entry {
-        0..=5 | STRICT => with_none(entry, bytes, sizes, n),
-        17 => tags::agrees(bytes, sizes, n),
+        0..=5 | STRICT => record_agrees(entry, bytes, sizes, n),
+        17 => tags_agree(bytes, sizes, n),
         6..=21 => with_one(entry, bytes, sizes, n),
         _ => false,
     }

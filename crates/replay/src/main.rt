@@ -1,14 +1,7 @@
 // Replays the fixed list of the oracle's answers, which stands on standard input: makes each of its calls, compares what comes out, and
 // prints the lines that are not so and the counts. The list says how it was made and what its lines mean.
-mod counting;
-mod edits;
 mod entries;
-mod numbers;
-mod questions;
-mod records;
 mod replaying;
-mod tags;
-mod texts;
 
 use libc::STDIN_FILENO;
 ghost use mathlib.Core.Path.{_≡_};
@@ -23,11 +16,11 @@ fn list_buffer() -> [u8; 524288]
 
 // Replays a list with the names of the entries, and room for the byte strings that it sets and their sizes; prints the counts.
 fn count(names: &[u8], list: &[u8], bytes: &mut [u8], sizes: &mut [usize]) {
-    let mut space = counting::all_counts();
+    let mut space = listed::all_counts();
     let counts: &mut [usize] = &mut space;
     replaying::take_all(names, list, bytes, sizes, counts);
-    counting::print_entries(names, counts);
-    counting::print_results(counts);
+    listed::print_entries(names, counts);
+    listed::print_results(counts);
 }
 
 // Replays a list.

@@ -1,15 +1,15 @@
 // Takes the lines of the list one by one: sets what a line sets, and makes the call of a line with an entry's name.
-use crate::counting::count_entry;
-use crate::counting::count_result;
-use crate::counting::mismatches;
-use crate::counting::print;
-use crate::counting::print_number;
 use crate::entries::STRICT;
 use crate::entries::agrees;
+use listed::count_entry;
+use listed::count_result;
 use listed::holder;
+use listed::mismatches;
 use listed::number_at;
 use listed::past;
 use listed::place_of;
+use listed::print;
+use listed::print_number;
 use listed::rest;
 use listed::set;
 use listed::set_same;

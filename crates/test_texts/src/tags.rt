@@ -1,5 +1,4 @@
 // The entry with three outputs, which writes the tags of a record: each output is to come out as its `want` says.
-use crate::numbers::are_seven;
 use listed::OUT;
 use listed::OUT_THREE;
 use listed::OUT_TWO;
@@ -8,6 +7,7 @@ use listed::UNWRITTEN;
 use listed::WANT;
 use listed::WANT_THREE;
 use listed::WANT_TWO;
+use listed::are_seven;
 use listed::held;
 use listed::load;
 
@@ -78,7 +78,7 @@ fn with_two(bytes: &[u8], sizes: &[usize], n: &[u8], out: &mut [u8]) -> bool {
 }
 
 // The same with the first output copied.
-pub(crate) fn agrees(bytes: &[u8], sizes: &[usize], n: &[u8]) -> bool {
+pub fn tags_agree(bytes: &[u8], sizes: &[usize], n: &[u8]) -> bool {
     let mut space = io::large_buffer();
     let room: &mut [u8] = &mut space;
     let size = load(room, held(bytes, sizes, OUT));

@@ -1,13 +1,13 @@
 // The entries that read texts and tags, and the one that writes messages. The line has the result, the numbers that come out, and then
 // those that go in, in the order of the function's parameters.
-use crate::numbers::are_four;
-use crate::numbers::are_two;
-use crate::numbers::narrow;
 use listed::ONE;
 use listed::THREE;
 use listed::TWO;
 use listed::UNWRITTEN;
+use listed::are_four;
+use listed::are_two;
 use listed::held;
+use listed::narrow;
 use listed::number_at;
 
 // Whether `graph_name_from_header_lines` answers so.
@@ -59,13 +59,7 @@ fn error_message(one: &[u8], n: &[u8], out: &mut [u8]) -> bool {
 }
 
 // Whether the entry of a number, from 12 to 14, answers with the numbers of a line.
-pub(crate) fn agrees(
-    entry: usize,
-    bytes: &[u8],
-    sizes: &[usize],
-    n: &[u8],
-    out: &mut [u8],
-) -> bool {
+pub fn text_agrees(entry: usize, bytes: &[u8], sizes: &[usize], n: &[u8], out: &mut [u8]) -> bool {
     let one = held(bytes, sizes, ONE);
     let two = held(bytes, sizes, TWO);
     match entry {

@@ -3,13 +3,13 @@ use borrow.Author.Needs.{needs}
 use native.Mathlib.Omega.{arith}
 use Prim.Native.Nat.{_-_, _≤_}
 use lib.ListN.{length}
-use Rattle.replay.proofs.counting.print_entries.Statement.{statement}
-use Rattle.replay.proofs.counting.print_entries.Tie as tie
-use Rattle.replay.proofs.counting.print_entries.Reads as reads
-use Rattle.replay.proofs.counting.print_entries.Lts as lts
-use Rattle.listed.proofs.past.Reads as past-reads
-use Rattle.listed.proofs.upto.Reads as upto-reads
-use Rattle.replay.proofs.counting.print_entry.Reads as print-entry-reads
+use Rattle.listed.proofs.counting.print_entries.Statement.{statement}
+use Rattle.listed.proofs.counting.print_entries.Tie as tie
+use Rattle.listed.proofs.counting.print_entries.Reads as reads
+use Rattle.listed.proofs.counting.print_entries.Lts as lts
+use Rattle.listed.proofs.lines.past.Reads as past-reads
+use Rattle.listed.proofs.lines.upto.Reads as upto-reads
+use Rattle.listed.proofs.counting.print_entry.Reads as print-entry-reads
 
 abbrev Inv-loop : tie.InvT-loop
 Inv-loop names counts from₀ entry₀ t5 from entry = entry ≤ from

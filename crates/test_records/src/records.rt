@@ -1,14 +1,18 @@
 // The entries that look at records and lines, and have no output. Each call is compared with the numbers of its line: the result, and the numbers
 // that come out, in the order of the function's parameters; a place that goes in comes last.
-use crate::numbers::are_four;
-use crate::numbers::are_seven;
-use crate::numbers::are_two;
-use crate::numbers::is;
+use listed::ONE;
+use listed::OTHER;
+use listed::RECORD;
 use listed::UNWRITTEN;
+use listed::are_four;
+use listed::are_seven;
+use listed::are_two;
+use listed::held;
+use listed::is;
 use listed::number_at;
 
 // Whether `graph_name_counts` answers so.
-pub(crate) fn counts(record: &[u8], n: &[u8]) -> bool {
+fn counts(record: &[u8], n: &[u8]) -> bool {
     let mut names = UNWRITTEN;
     let mut subgraph = UNWRITTEN;
     let mut translation = UNWRITTEN;
@@ -17,7 +21,7 @@ pub(crate) fn counts(record: &[u8], n: &[u8]) -> bool {
 }
 
 // Whether `graph_name_name` answers so.
-pub(crate) fn name(record: &[u8], n: &[u8]) -> bool {
+fn name(record: &[u8], n: &[u8]) -> bool {
     let mut present = UNWRITTEN;
     let mut start = UNWRITTEN;
     let mut length = UNWRITTEN;
@@ -26,7 +30,7 @@ pub(crate) fn name(record: &[u8], n: &[u8]) -> bool {
 }
 
 // Whether `graph_name_name_at` answers so.
-pub(crate) fn name_at(record: &[u8], n: &[u8]) -> bool {
+fn name_at(record: &[u8], n: &[u8]) -> bool {
     let mut present = UNWRITTEN;
     let mut start = UNWRITTEN;
     let mut length = UNWRITTEN;
@@ -41,7 +45,7 @@ pub(crate) fn name_at(record: &[u8], n: &[u8]) -> bool {
 }
 
 // Whether `graph_name_subgraph_at` answers so.
-pub(crate) fn subgraph_at(record: &[u8], n: &[u8]) -> bool {
+fn subgraph_at(record: &[u8], n: &[u8]) -> bool {
     let mut present = UNWRITTEN;
     let mut from_start = UNWRITTEN;
     let mut from_length = UNWRITTEN;
@@ -70,7 +74,7 @@ pub(crate) fn subgraph_at(record: &[u8], n: &[u8]) -> bool {
 }
 
 // Whether `graph_name_translation_at` answers so.
-pub(crate) fn translation_at(record: &[u8], n: &[u8]) -> bool {
+fn translation_at(record: &[u8], n: &[u8]) -> bool {
     let mut present = UNWRITTEN;
     let mut from_start = UNWRITTEN;
     let mut from_length = UNWRITTEN;
@@ -99,13 +103,27 @@ pub(crate) fn translation_at(record: &[u8], n: &[u8]) -> bool {
 }
 
 // Whether `graph_name_is_same` answers so.
-pub(crate) fn is_same(record: &[u8], other: &[u8], n: &[u8]) -> bool {
+fn is_same(record: &[u8], other: &[u8], n: &[u8]) -> bool {
     let mut answer = UNWRITTEN;
     let result = graph_name::graph_name_is_same(record, other, &mut answer);
     are_two(n, result, answer)
 }
 
 // Whether `graph_name_check_strict` answers so.
-pub(crate) fn check_strict(line: &[u8], n: &[u8]) -> bool {
+fn check_strict(line: &[u8], n: &[u8]) -> bool {
     is(n, 0, graph_name::graph_name_check_strict(line))
+}
+
+// Whether the entry of a number, one with no output, answers with the numbers of a line.
+pub fn record_agrees(entry: usize, bytes: &[u8], sizes: &[usize], n: &[u8]) -> bool {
+    let record = held(bytes, sizes, RECORD);
+    match entry {
+        0 => counts(record, n),
+        1 => name(record, n),
+        2 => name_at(record, n),
+        3 => subgraph_at(record, n),
+        4 => translation_at(record, n),
+        5 => is_same(record, held(bytes, sizes, OTHER), n),
+        _ => check_strict(held(bytes, sizes, ONE), n),
+    }
 }

@@ -1,11 +1,11 @@
 // The entries on records with an output and one number: header lines, path questions and the description. The line has the result, and of a
 // question its answer, of the others how many bytes were written.
-use crate::numbers::are_two;
 use listed::ONE;
 use listed::OTHER;
 use listed::RECORD;
 use listed::TWO;
 use listed::UNWRITTEN;
+use listed::are_two;
 use listed::held;
 
 // The result of the entry of a number: 15, 16, 18, 19 or 21.
@@ -28,7 +28,7 @@ fn result<'a>(
 }
 
 // Whether the entry of a number answers with the numbers of a line.
-pub(crate) fn agrees(
+pub fn question_agrees(
     entry: usize,
     bytes: &[u8],
     sizes: &[usize],

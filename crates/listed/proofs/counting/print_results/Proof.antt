@@ -1,12 +1,12 @@
 -- Only the bounds.
 use borrow.Author.Needs.{needs}
 use Prim.Native.Nat.{_-_, _≤_}
-use Rattle.replay.proofs.counting.print_results.Statement.{statement}
-use Rattle.replay.proofs.counting.print_results.Tie as tie
-use Rattle.replay.proofs.counting.print_results.Reads as reads
-use Rattle.replay.proofs.counting.print_results.Lts as lts
-use Rattle.replay.proofs.counting.print.Reads as print-reads
-use Rattle.replay.proofs.counting.print_result.Reads as print-result-reads
+use Rattle.listed.proofs.counting.print_results.Statement.{statement}
+use Rattle.listed.proofs.counting.print_results.Tie as tie
+use Rattle.listed.proofs.counting.print_results.Reads as reads
+use Rattle.listed.proofs.counting.print_results.Lts as lts
+use Rattle.listed.proofs.counting.print.Reads as print-reads
+use Rattle.listed.proofs.counting.print_result.Reads as print-result-reads
 
 abbrev Inv-loop : tie.InvT-loop
 Inv-loop counts n₀ t4 n = n ≤ 19

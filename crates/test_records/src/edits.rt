@@ -1,9 +1,9 @@
 // The entries that make and change records. The line has the result alone.
-use crate::numbers::is;
 use listed::ONE;
 use listed::OTHER;
 use listed::TWO;
 use listed::held;
+use listed::is;
 
 // The result of the entry of a number, from 6 to 11, on a record.
 fn result(entry: usize, b: &mut [u8], other: &[u8], one: &[u8], two: &[u8]) -> u32 {
@@ -18,13 +18,7 @@ fn result(entry: usize, b: &mut [u8], other: &[u8], one: &[u8], two: &[u8]) -> u
 }
 
 // Whether the entry of a number has the result of a line.
-pub(crate) fn agrees(
-    entry: usize,
-    bytes: &[u8],
-    sizes: &[usize],
-    n: &[u8],
-    out: &mut [u8],
-) -> bool {
+pub fn edit_agrees(entry: usize, bytes: &[u8], sizes: &[usize], n: &[u8], out: &mut [u8]) -> bool {
     let other = held(bytes, sizes, OTHER);
     let one = held(bytes, sizes, ONE);
     let two = held(bytes, sizes, TWO);

@@ -1,8 +1,8 @@
 // Counts for each entry and in total: cases, mismatches, answers that are wrong on purpose, and those of them that were noticed. And behind
 // them how often each number from 0 to 18 is the result that is wanted.
+use crate::lines::past;
+use crate::lines::upto;
 use libc::STDOUT_FILENO;
-use listed::past;
-use listed::upto;
 ghost use mathlib.Core.Path.{_≡_};
 ghost use lib.ListN.{length};
 
@@ -13,18 +13,18 @@ const TOTAL: usize = 23;
 const RESULTS: usize = 96;
 
 // Writes to standard output.
-pub(crate) fn print(s: &[u8]) {
+pub fn print(s: &[u8]) {
     io::write_all(STDOUT_FILENO, s);
 }
 
 // Writes a number in decimal, and a text behind it.
-pub(crate) fn print_number(n: usize, s: &[u8]) {
+pub fn print_number(n: usize, s: &[u8]) {
     io::print_decimal(STDOUT_FILENO, n as u64);
     print(s);
 }
 
 // Four counts for each of at most 22 entries, for lines with the name of none, and for the total; and 19 for the numbers.
-pub(crate) fn all_counts() -> [usize; 115]
+pub fn all_counts() -> [usize; 115]
     ensures { λ r. ⌜ 115 ≡ length r ⌝ }
 {
     [0; 115]
@@ -41,7 +41,7 @@ fn count(counts: &mut [usize], place: usize) {
 }
 
 // How many mismatches there are.
-pub(crate) fn mismatches(counts: &[usize]) -> usize {
+pub fn mismatches(counts: &[usize]) -> usize {
     at(counts, 4 * TOTAL + 1)
 }
 
@@ -54,7 +54,7 @@ fn at(counts: &[usize], place: usize) -> usize {
 }
 
 // Counts one more of a kind for an entry, and in total.
-pub(crate) fn count_entry(counts: &mut [usize], entry: usize, kind: usize) {
+pub fn count_entry(counts: &mut [usize], entry: usize, kind: usize) {
     if TOTAL < entry {
         return;
     }
@@ -66,7 +66,7 @@ pub(crate) fn count_entry(counts: &mut [usize], entry: usize, kind: usize) {
 }
 
 // Counts a result that is wanted.
-pub(crate) fn count_result(counts: &mut [usize], wanted: u64) {
+pub fn count_result(counts: &mut [usize], wanted: u64) {
     if wanted < 19 {
         count(counts, RESULTS + wanted as usize);
     }
@@ -87,7 +87,7 @@ fn print_entry(counts: &[usize], name: &[u8], entry: usize) {
 }
 
 // The counts of all entries, whose names stand in a list of words, and the total.
-pub(crate) fn print_entries(names: &[u8], counts: &[usize]) {
+pub fn print_entries(names: &[u8], counts: &[usize]) {
     let mut from = 0;
     let mut entry = 0;
     while from < names.len() {
@@ -108,7 +108,7 @@ fn print_result(counts: &[usize], n: usize) {
 }
 
 // How often each number is wanted, on a line.
-pub(crate) fn print_results(counts: &[usize]) {
+pub fn print_results(counts: &[usize]) {
     print(b"results");
     for n in 0..19 {
         print_result(counts, n);
