@@ -1,8 +1,8 @@
 // docs/FORMAT.md, example 15: A is a subgraph of B, and their relationship is described with the texts p and q, self being A.
-use crate::output::Counts;
-use crate::output::number;
 use crate::program::written;
-use crate::sizes::record_buffer;
+use test_examples::Counts;
+use test_examples::number;
+use test_examples::record_buffer;
 
 // All of example 15.
 pub(crate) fn run(c: Counts) -> Counts {

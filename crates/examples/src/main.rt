@@ -2,20 +2,19 @@
 // came out, and whether it is as stated; the last line counts both.
 mod description;
 mod lines;
-mod output;
 mod program;
-mod sizes;
 
-use output::Counts;
-use output::print;
-use output::print_number;
+use test_examples::Counts;
+use test_examples::print;
+use test_examples::print_number;
+use test_examples::run_sizes;
 
 fn main() {
     let none = Counts {
         stated: 0,
         differ: 0,
     };
-    let c = lines::run(program::run(description::run(sizes::run(none))));
+    let c = lines::run(program::run(description::run(run_sizes(none))));
     print_number(c.stated);
     print(b" as stated, ");
     print_number(c.differ);

@@ -1,16 +1,16 @@
 // docs/FORMAT.md, example 16: what the record program finds in three header lines, and a refusal with its message.
-use crate::output::Counts;
-use crate::output::judged;
-use crate::output::number;
-use crate::output::print;
-use crate::output::print_number;
-use crate::output::shown;
-use crate::sizes::put;
-use crate::sizes::put_text;
-use crate::sizes::record_buffer;
 use accessors::GivenCounts;
 use export::Written;
 use parse::Answer;
+use test_examples::Counts;
+use test_examples::judged;
+use test_examples::number;
+use test_examples::print;
+use test_examples::print_number;
+use test_examples::put;
+use test_examples::put_text;
+use test_examples::record_buffer;
+use test_examples::shown;
 
 // The text that a writer put to the front of the output, beside the one that is stated.
 pub(crate) fn written(c: Counts, label: &[u8], w: Written, out: &[u8], stated: &[u8]) -> Counts {

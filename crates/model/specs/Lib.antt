@@ -1,3 +1,4 @@
+-- The definitions, in the order in which one would explain them; then the laws and the examples.
 pub mod Text
 pub mod Bytes
 pub mod Numbers

@@ -7,10 +7,10 @@ use Rattle.examples.proofs.program.program_on.Statement.{statement}
 use Rattle.examples.proofs.program.program_on.Tie as tie
 use Rattle.examples.proofs.program.program_on.Reads as reads
 use Rattle.examples.proofs.program.program_on.Lts as lts
-use Rattle.examples.proofs.output.print.Reads as print-reads
-use Rattle.examples.proofs.output.print_number.Reads as print-number-reads
-use Rattle.examples.proofs.sizes.put.Reads as put-reads
-use Rattle.examples.proofs.sizes.put_text.Reads as put-text-reads
+use Rattle.test_examples.proofs.print.Reads as print-reads
+use Rattle.test_examples.proofs.print_number.Reads as print-number-reads
+use Rattle.test_examples.proofs.put.Reads as put-reads
+use Rattle.test_examples.proofs.put_text.Reads as put-text-reads
 use Rattle.io.proofs.large_buffer.Reads as large-buffer-reads
 use Rattle.report.proofs.program.Reads as program-reads
 use Rattle.text.proofs.part.Reads as part-reads

@@ -3,12 +3,12 @@ use borrow.Author.Needs.{needs}
 use Prim.Native.Nat.{_-_}
 use lib.ListN.{length}
 use mathlib.Core.Path.{_≡_}
-use Rattle.examples.proofs.sizes.add_names.Statement.{statement}
-use Rattle.examples.proofs.sizes.add_names.Tie as tie
-use Rattle.examples.proofs.sizes.add_names.Reads as reads
-use Rattle.examples.proofs.sizes.add_names.Lts as lts
-use Rattle.examples.proofs.sizes.add_name.Reads as add-name-reads
-use Rattle.examples.proofs.sizes.record_buffer.Reads as record-buffer-reads
+use Rattle.test_examples.proofs.sizes.add_names.Statement.{statement}
+use Rattle.test_examples.proofs.sizes.add_names.Tie as tie
+use Rattle.test_examples.proofs.sizes.add_names.Reads as reads
+use Rattle.test_examples.proofs.sizes.add_names.Lts as lts
+use Rattle.test_examples.proofs.sizes.add_name.Reads as add-name-reads
+use Rattle.test_examples.proofs.sizes.record_buffer.Reads as record-buffer-reads
 
 abbrev Inv-loop : tie.InvT-loop
 Inv-loop names size b₀ last₀ i₀ b last i = length b ≡ length b₀

@@ -3,11 +3,11 @@ use borrow.Author.Needs.{needs}
 use Prim.Native.Nat.{_-_}
 use lib.ListN.{length}
 use mathlib.Core.Path.{_≡_}
-use Rattle.examples.proofs.sizes.put_text.Statement.{statement}
-use Rattle.examples.proofs.sizes.put_text.Tie as tie
-use Rattle.examples.proofs.sizes.put_text.Reads as reads
-use Rattle.examples.proofs.sizes.put_text.Lts as lts
-use Rattle.examples.proofs.sizes.put.Reads as put-reads
+use Rattle.test_examples.proofs.sizes.put_text.Statement.{statement}
+use Rattle.test_examples.proofs.sizes.put_text.Tie as tie
+use Rattle.test_examples.proofs.sizes.put_text.Reads as reads
+use Rattle.test_examples.proofs.sizes.put_text.Lts as lts
+use Rattle.test_examples.proofs.sizes.put.Reads as put-reads
 
 abbrev Inv-loop : tie.InvT-loop
 Inv-loop out₀ at s p₀ i₀ i-end out p i = length out ≡ length out₀

@@ -2,23 +2,23 @@
 use libc::STDOUT_FILENO;
 
 // How many answers are as stated, and how many differ.
-pub(crate) struct Counts {
+pub struct Counts {
     pub stated: usize,
     pub differ: usize,
 }
 
 // Writes to standard output.
-pub(crate) fn print(s: &[u8]) {
+pub fn print(s: &[u8]) {
     io::write_all(STDOUT_FILENO, s);
 }
 
 // Writes a number in decimal.
-pub(crate) fn print_number(n: usize) {
+pub fn print_number(n: usize) {
     io::print_decimal(STDOUT_FILENO, n as u64);
 }
 
 // Writes a text on one line: a tab as \t and the end of a line as \n.
-pub(crate) fn print_shown(s: &[u8]) {
+pub fn print_shown(s: &[u8]) {
     for i in 0..s.len() {
         let x = s[i];
         match x {
@@ -30,7 +30,7 @@ pub(crate) fn print_shown(s: &[u8]) {
 }
 
 // One more answer, which is as stated or differs: ends its line, and counts it.
-pub(crate) fn judged(c: Counts, stated: bool) -> Counts {
+pub fn judged(c: Counts, stated: bool) -> Counts {
     if stated {
         print(b": as stated\n");
         return Counts {
@@ -54,14 +54,14 @@ fn more(n: usize) -> usize {
 }
 
 // A line of a label and a number, beside the number that is stated.
-pub(crate) fn number(c: Counts, label: &[u8], n: usize, stated: usize) -> Counts {
+pub fn number(c: Counts, label: &[u8], n: usize, stated: usize) -> Counts {
     print(label);
     print_number(n);
     judged(c, n == stated)
 }
 
 // A line of a label and a text, beside the text that is stated.
-pub(crate) fn shown(c: Counts, label: &[u8], s: &[u8], stated: &[u8]) -> Counts {
+pub fn shown(c: Counts, label: &[u8], s: &[u8], stated: &[u8]) -> Counts {
     print(label);
     print_shown(s);
     judged(c, text::same(s, stated))

@@ -7,14 +7,14 @@ ghost use mathlib.Core.Path.{_≡_};
 ghost use lib.ListN.{length};
 
 // A buffer for a record.
-pub(crate) fn record_buffer() -> [u8; 32768]
+pub fn record_buffer() -> [u8; 32768]
     ensures { λ r. ⌜ 32768 ≡ length r ⌝ }
 {
     [0; 32768]
 }
 
 // Writes a byte, if there is room, and gives the place behind it.
-pub(crate) fn put(out: &mut [u8], at: usize, x: u8) -> usize {
+pub fn put(out: &mut [u8], at: usize, x: u8) -> usize {
     if at < out.len() {
         out[at] = x;
         return at + 1;
@@ -23,7 +23,7 @@ pub(crate) fn put(out: &mut [u8], at: usize, x: u8) -> usize {
 }
 
 // Writes a text, as far as there is room.
-pub(crate) fn put_text(out: &mut [u8], at: usize, s: &[u8]) -> usize {
+pub fn put_text(out: &mut [u8], at: usize, s: &[u8]) -> usize {
     let mut p = at;
     for i in 0..s.len() {
         p = put(out, p, s[i]);
@@ -119,7 +119,7 @@ fn names_both(
 }
 
 // All of example 14, and that 87 names of 256 bytes do fit.
-pub(crate) fn run(c: Counts) -> Counts {
+pub fn run_sizes(c: Counts) -> Counts {
     let d = names_both(c, b"14 512 names read ", b"14 512 names added ", 512, 3, 0);
     let e = names_both(d, b"14 513 names read ", b"14 513 names added ", 513, 3, 12);
     let f = names_both(
