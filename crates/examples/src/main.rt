@@ -1,12 +1,12 @@
 // Runs the examples of docs/FORMAT.md that are not marked T, and the GFA 1 specification's own header example. A line for each answer says what
 // came out, and whether it is as stated; the last line counts both.
 mod description;
-mod lines;
 mod program;
 
 use test_examples::Counts;
 use test_examples::print;
 use test_examples::print_number;
+use test_examples::run_lines;
 use test_examples::run_sizes;
 
 fn main() {
@@ -14,7 +14,7 @@ fn main() {
         stated: 0,
         differ: 0,
     };
-    let c = lines::run(program::run(description::run(run_sizes(none))));
+    let c = run_lines(program::run(description::run(run_sizes(none))));
     print_number(c.stated);
     print(b" as stated, ");
     print_number(c.differ);

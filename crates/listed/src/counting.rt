@@ -13,12 +13,12 @@ const TOTAL: usize = 23;
 const RESULTS: usize = 96;
 
 // Writes to standard output.
-pub fn print(s: &[u8]) {
+pub(crate) fn print(s: &[u8]) {
     io::write_all(STDOUT_FILENO, s);
 }
 
 // Writes a number in decimal, and a text behind it.
-pub fn print_number(n: usize, s: &[u8]) {
+pub(crate) fn print_number(n: usize, s: &[u8]) {
     io::print_decimal(STDOUT_FILENO, n as u64);
     print(s);
 }
@@ -41,7 +41,7 @@ fn count(counts: &mut [usize], place: usize) {
 }
 
 // How many mismatches there are.
-pub fn mismatches(counts: &[usize]) -> usize {
+pub(crate) fn mismatches(counts: &[usize]) -> usize {
     at(counts, 4 * TOTAL + 1)
 }
 
@@ -54,7 +54,7 @@ fn at(counts: &[usize], place: usize) -> usize {
 }
 
 // Counts one more of a kind for an entry, and in total.
-pub fn count_entry(counts: &mut [usize], entry: usize, kind: usize) {
+pub(crate) fn count_entry(counts: &mut [usize], entry: usize, kind: usize) {
     if TOTAL < entry {
         return;
     }
@@ -114,4 +114,31 @@ pub fn print_results(counts: &[usize]) {
         print_result(counts, n);
     }
     print(b"\n");
+}
+
+// Prints a line of the list with its number, unless there were 20 mismatches already.
+fn print_line(counts: &[usize], number: usize, line: &[u8]) {
+    if mismatches(counts) < 20 {
+        print(b"line ");
+        print_number(number, b" is not so: ");
+        print(line);
+        print(b"\n");
+    }
+}
+
+// Counts a call that is to agree.
+pub fn count_right(counts: &mut [usize], entry: usize, agreed: bool, number: usize, line: &[u8]) {
+    count_entry(counts, entry, 0);
+    if !agreed {
+        print_line(counts, number, line);
+        count_entry(counts, entry, 1);
+    }
+}
+
+// Counts a call whose line is wrong on purpose.
+pub fn count_wrong(counts: &mut [usize], entry: usize, agreed: bool) {
+    count_entry(counts, entry, 2);
+    if !agreed {
+        count_entry(counts, entry, 3);
+    }
 }

@@ -1,5 +1,7 @@
 // The byte strings that the list sets by name and that the calls take: each has 47,616 bytes of one buffer, and its length stands apart.
 use crate::bytes::read_bytes;
+use crate::lines::first;
+use crate::lines::tail;
 ghost use mathlib.Core.Path.{_≡_};
 ghost use lib.ListN.{length};
 ghost use Rattle.io.specs.Counts.{Counts};
@@ -50,7 +52,7 @@ pub fn holder_sizes() -> [usize; 11]
 }
 
 // Sets the one at a place to the bytes that a text stands for.
-pub fn set(bytes: &mut [u8], sizes: &mut [usize], place: usize, s: &[u8]) {
+pub(crate) fn set(bytes: &mut [u8], sizes: &mut [usize], place: usize, s: &[u8]) {
     if bytes.len() != 523776 {
         return;
     }
@@ -66,7 +68,7 @@ pub fn set(bytes: &mut [u8], sizes: &mut [usize], place: usize, s: &[u8]) {
 }
 
 // Sets the one at a place to the one at another.
-pub fn set_same(bytes: &mut [u8], sizes: &mut [usize], place: usize, from: usize) {
+pub(crate) fn set_same(bytes: &mut [u8], sizes: &mut [usize], place: usize, from: usize) {
     if bytes.len() != 523776 {
         return;
     }
@@ -106,4 +108,13 @@ pub fn load(out: &mut [u8], s: &[u8]) -> usize
         return 0;
     }
     text::copy(out, 0, s)
+}
+
+// Sets the byte string at a place as a line says: to that of a name behind `=`, or to bytes.
+pub fn set_as(bytes: &mut [u8], sizes: &mut [usize], place: usize, s: &[u8]) {
+    if first(s) == b'=' {
+        set_same(bytes, sizes, place, holder(tail(s)));
+        return;
+    }
+    set(bytes, sizes, place, s);
 }

@@ -83,3 +83,16 @@ pub fn number_at(line: &[u8], place: usize) -> u64 {
     }
     number(upto(line, at, b' '))
 }
+
+// The byte at the front; `#` if there is none.
+pub fn first(s: &[u8]) -> u8 {
+    if s.len() == 0 {
+        return b'#';
+    }
+    s[0]
+}
+
+// What is behind the first byte.
+pub fn tail(s: &[u8]) -> &[u8] {
+    text::part(s, 1, s.len())
+}

@@ -1,46 +1,18 @@
 // Takes the lines of the list one by one: sets what a line sets, and makes the call of a line with an entry's name.
 use crate::entries::STRICT;
 use crate::entries::agrees;
-use listed::count_entry;
 use listed::count_result;
+use listed::count_right;
+use listed::count_wrong;
+use listed::first;
 use listed::holder;
-use listed::mismatches;
 use listed::number_at;
 use listed::past;
 use listed::place_of;
-use listed::print;
-use listed::print_number;
 use listed::rest;
-use listed::set;
-use listed::set_same;
+use listed::set_as;
+use listed::tail;
 use listed::upto;
-
-// Prints a line of the list with its number, unless there were 20 mismatches already.
-fn print_line(counts: &[usize], number: usize, line: &[u8]) {
-    if mismatches(counts) < 20 {
-        print(b"line ");
-        print_number(number, b" is not so: ");
-        print(line);
-        print(b"\n");
-    }
-}
-
-// Counts a call that is to agree.
-fn count_right(counts: &mut [usize], entry: usize, agreed: bool, number: usize, line: &[u8]) {
-    count_entry(counts, entry, 0);
-    if !agreed {
-        print_line(counts, number, line);
-        count_entry(counts, entry, 1);
-    }
-}
-
-// Counts a call whose line is wrong on purpose.
-fn count_wrong(counts: &mut [usize], entry: usize, agreed: bool) {
-    count_entry(counts, entry, 2);
-    if !agreed {
-        count_entry(counts, entry, 3);
-    }
-}
 
 // Makes the call of a line that begins with an entry's name. A line with another word is a mismatch. The result that the line wants is
 // counted; not that of the strict reading, which is no refusal's number.
@@ -64,28 +36,6 @@ fn call(
 fn call_wrong(names: &[u8], bytes: &[u8], sizes: &[usize], counts: &mut [usize], line: &[u8]) {
     let entry = place_of(names, upto(line, 0, b' '));
     count_wrong(counts, entry, agrees(entry, bytes, sizes, rest(line)));
-}
-
-// The byte at the front; `#` if there is none.
-fn first(s: &[u8]) -> u8 {
-    if s.len() == 0 {
-        return b'#';
-    }
-    s[0]
-}
-
-// What is behind the first byte.
-fn tail(s: &[u8]) -> &[u8] {
-    text::part(s, 1, s.len())
-}
-
-// Sets the byte string at a place as a line says: to that of a name behind `=`, or to bytes.
-fn set_as(bytes: &mut [u8], sizes: &mut [usize], place: usize, s: &[u8]) {
-    if first(s) == b'=' {
-        set_same(bytes, sizes, place, holder(tail(s)));
-        return;
-    }
-    set(bytes, sizes, place, s);
 }
 
 // Takes a line that calls: one that begins with `!` is wrong on purpose.

@@ -1,13 +1,15 @@
-// What the program `examples` shares: what came out printed beside what was stated, and example 14 of docs/FORMAT.md.
+// What the program `examples` runs apart from whole records: example 14 of docs/FORMAT.md, header lines by themselves, and what came out
+// printed beside what was stated.
+mod lines;
 mod output;
 mod sizes;
 
+pub use lines::run_lines;
 pub use output::Counts;
 pub use output::judged;
 pub use output::number;
 pub use output::print;
 pub use output::print_number;
-pub use output::print_shown;
 pub use output::shown;
 pub use sizes::put;
 pub use sizes::put_text;

@@ -1,12 +1,12 @@
 // Header lines by themselves: the GFA 1 specification's own example, and the lines of docs/FORMAT.md, example 16, read strictly and leniently.
+use crate::output::Counts;
+use crate::output::judged;
+use crate::output::print;
+use crate::output::print_number;
+use crate::output::print_shown;
+use crate::sizes::record_buffer;
 use model::Strictness;
 use parse::Answer;
-use test_examples::Counts;
-use test_examples::judged;
-use test_examples::print;
-use test_examples::print_number;
-use test_examples::print_shown;
-use test_examples::record_buffer;
 
 // A line that is stated to be fine, read strictly.
 fn strictly(c: Counts, label: &[u8], line: &[u8]) -> Counts {
@@ -51,7 +51,7 @@ fn leniently(c: Counts, label: &[u8], line: &[u8]) -> Counts {
 }
 
 // The specification's example both ways, and the `H` lines of example 16 strictly.
-pub(crate) fn run(c: Counts) -> Counts {
+pub fn run_lines(c: Counts) -> Counts {
     let d = strictly(c, b"specification, strictly: ", b"H\tVN:Z:1.0");
     let e = leniently(d, b"specification, leniently: ", b"H\tVN:Z:1.0");
     let f = strictly(e, b"16 strictly: ", b"H\tVN:Z:1.1\tNM:Z:b2");
