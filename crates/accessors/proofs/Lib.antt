@@ -1,1 +1,2 @@
+-- The answers about records in the numbers that the code reads.
 mod Answers

@@ -1,7 +1,8 @@
--- What each case of an answer means: a refusal's number, or the values. Assumes nothing.
+-- What each case of an answer means: a refusal's number, or the values.
 use mathlib.Core.Bool.{Bool}
 use mathlib.Core.Option.{Option, some, none}
-use Rattle.model.specs.Questions.{Given, refuses, gives, Counts, Part, PairParts}
+use Rattle.model.specs.Questions.{Counts, Part, PairParts}
+use Rattle.model.specs.Opening.{Given, refuses, gives}
 use Rattle.accessors.specs.declared.GivenCounts.{GivenCounts}
 use Rattle.accessors.specs.declared.GivenCounts.the-variants as counts
 use Rattle.accessors.specs.declared.GivenPart.{GivenPart}

@@ -5,9 +5,9 @@
 use model::Kind;
 use record::fault;
 use record::fault_of_both;
+use record::has_name;
 use record::head_at;
-use record::name_at;
-use record::own_place;
+use record::own_name;
 use record::pair_at;
 use record::pair_count;
 use record::pair_from;
@@ -56,9 +56,9 @@ pub enum GivenBool {
 pub fn counts(b: &[u8]) -> GivenCounts
     ensures { λ r. ⌜ countsGiven r ≡ countsIn (now (b .entry)) ⌝ }
 {
-    let wrong = fault(b);
-    if wrong != 0 {
-        return GivenCounts::Refused(wrong);
+    let number = fault(b);
+    if number != 0 {
+        return GivenCounts::Refused(number);
     }
     let h = head_at(b);
     GivenCounts::Are {
@@ -72,9 +72,9 @@ pub fn counts(b: &[u8]) -> GivenCounts
 pub fn name(b: &[u8]) -> GivenPart
     ensures { λ r. ⌜ partGiven r ≡ nameIn (now (b .entry)) ⌝ }
 {
-    let wrong = fault(b);
-    if wrong != 0 {
-        return GivenPart::Refused(wrong);
+    let number = fault(b);
+    if number != 0 {
+        return GivenPart::Refused(number);
     }
     let h = head_at(b);
     if h.own == 0 {
@@ -91,9 +91,9 @@ pub fn name(b: &[u8]) -> GivenPart
 pub fn name_place(b: &[u8], i: usize) -> GivenPart
     ensures { λ r. ⌜ partGiven r ≡ nameAtIn (now (b .entry)) i ⌝ }
 {
-    let wrong = fault(b);
-    if wrong != 0 {
-        return GivenPart::Refused(wrong);
+    let number = fault(b);
+    if number != 0 {
+        return GivenPart::Refused(number);
     }
     let h = head_at(b);
     if h.names <= i {
@@ -110,9 +110,9 @@ pub fn name_place(b: &[u8], i: usize) -> GivenPart
 pub fn pair_place(b: &[u8], kind: Kind, i: usize) -> GivenPair
     ensures { λ r. ⌜ pairGiven r ≡ pairAtIn kind (now (b .entry)) i ⌝ }
 {
-    let wrong = fault(b);
-    if wrong != 0 {
-        return GivenPair::Refused(wrong);
+    let number = fault(b);
+    if number != 0 {
+        return GivenPair::Refused(number);
     }
     if pair_count(b, kind) <= i {
         return GivenPair::Absent;
@@ -133,17 +133,15 @@ pub fn pair_place(b: &[u8], kind: Kind, i: usize) -> GivenPair
 pub fn is_same(b: &[u8], c: &[u8]) -> GivenBool
     ensures { λ r. ⌜ boolGiven r ≡ isSameIn (now (b .entry)) (now (c .entry)) ⌝ }
 {
-    let wrong = fault_of_both(b, c);
-    if wrong != 0 {
-        return GivenBool::Refused(wrong);
+    let number = fault_of_both(b, c);
+    if number != 0 {
+        return GivenBool::Refused(number);
     }
-    let mine = own_place(b);
-    let other = own_place(c);
-    if mine == 0 {
+    if !has_name(b) {
         return GivenBool::Is(false);
     }
-    if other == 0 {
+    if !has_name(c) {
         return GivenBool::Is(false);
     }
-    GivenBool::Is(text::same(name_at(b, mine - 1), name_at(c, other - 1)))
+    GivenBool::Is(text::same(own_name(b), own_name(c)))
 }

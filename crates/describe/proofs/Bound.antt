@@ -1,5 +1,5 @@
 -- A best path comes to no name twice, and all its names are names of the two records; so its bytes are at most 49,138.
-use mathlib.Core.Path.{_≡_, refl, sym, ap, _∙_}
+use mathlib.Core.Path.{_≡_, refl, ap}
 use mathlib.Core.Logic.{_⊎_, inl, inr, ⊎-elim}
 use mathlib.Core.List.{List, [], _∷_, _++_, map, List·Memᴰ, List·Memᴰ·head, List·Memᴰ·tail, List·Memᴰ·not-nil, List·Memᴰ·cases-cons, Memᴰ·cast, Memᴰ·append-left, Memᴰ·append-right}
 use mathlib.Core.Option.{some}
@@ -14,67 +14,26 @@ use Rattle.model.specs.Layout.{decode}
 use Rattle.model.specs.Questions.{pairsOf}
 use Rattle.model.specs.Path.{Step, pathBodies, pathBytes}
 use Rattle.model.specs.Statements.{Relation, byEither, IsPath, Best}
+use Rattle.text.proofs.Total.{total, Once, total-append, total-part}
 use Rattle.record.proofs.Laws.{decoded}
 use Rattle.record.proofs.Names.{own-listed, pair-listed}
 use Rattle.record.proofs.Sizes.{judge-sizes}
 use Rattle.path_bytes.proofs.PathBytes.{length-path}
 
--- ------------------------------------------------------------------ lists of names by weight
+-- the bytes that a name takes in a path: an entry and a body
+abbrev weight : Bytes → ℕ
+weight n = 4 + length n
 
--- the bytes that names take in a path: an entry and a body each
-abbrev weigh : List Bytes → ℕ
-weigh [] = 0
-weigh (n ∷ ns) = 4 + length n + weigh ns
-
-weigh-append : (ms ns : List Bytes) → weigh (ms ++ ns) ≡ weigh ms + weigh ns
-weigh-append [] ns = omega arith
-weigh-append (m ∷ ms) ns = omega (arith, weigh-append ms ns)
-
-weigh-bodies : (ns : List Bytes) → weigh ns ≡ 4 * length ns + length (bodies ns)
+weigh-bodies : (ns : List Bytes) → total weight ns ≡ 4 * length ns + length (bodies ns)
 weigh-bodies [] = refl
 weigh-bodies (n ∷ ns) = omega (arith, weigh-bodies ns, length-append n (bodies ns))
-
-abbrev Once : List Bytes → Type 0
-Once [] = Unit {0}
-Once (x ∷ xs) = (List·Memᴰ x xs → ⊥) × Once xs
-
-pub record Without (x : Bytes) (all : List Bytes) : Type 0 where
-  pub rest : List Bytes
-  pub weight : weigh all ≡ 4 + length x + weigh rest
-  pub keeps : (y : Bytes) → (y ≡ x → ⊥) → List·Memᴰ y all → List·Memᴰ y rest
-
-remove : (x : Bytes) (all : List Bytes) → List·Memᴰ x all → Without x all
-remove x [] m = absurd (List·Memᴰ·not-nil m)
-remove x (z ∷ zs) m = go (remove x zs) (List·Memᴰ·cases-cons m)
-  where
-    go : (List·Memᴰ x zs → Without x zs) → (x ≡ z) ⊎ List·Memᴰ x zs → Without x (z ∷ zs)
-    go further (inl e) = record {
-      rest = zs;
-      weight = omega (arith, ap length e);
-      keeps = λ y d w. ⊎-elim (λ (q : y ≡ z). absurd (d (q ∙ sym e))) (λ (q : List·Memᴰ y zs). q) (List·Memᴰ·cases-cons w);
-    }
-    go further (inr m) =
-        let r = further m in
-        record {
-          rest = z ∷ r .rest;
-          weight = omega (arith, r .weight);
-          keeps = λ y d w. ⊎-elim (λ (q : y ≡ z). List·Memᴰ·head q) (λ (q : List·Memᴰ y zs). List·Memᴰ·tail (r .keeps y d q)) (List·Memᴰ·cases-cons w);
-        }
-
-once-weighs : (xs all : List Bytes) → Once xs → ((y : Bytes) → List·Memᴰ y xs → List·Memᴰ y all) → weigh xs ≤ weigh all
-once-weighs [] all o h = omega arith
-once-weighs (x ∷ xs) all o h =
-    let r = remove x all (h x (List·Memᴰ·head refl)) in
-    let l : weigh xs ≤ weigh (r .rest) =
-    once-weighs xs (r .rest) (o .1) (λ y m. r .keeps y (λ e. o .0 (Memᴰ·cast (sym e) m)) (h y (List·Memᴰ·tail m))) in
-    omega (arith, r .weight)
 
 -- ------------------------------------------------------------------ a shortest path comes to no name twice
 
 abbrev nexts : List Step → List Bytes
 nexts ss = map (λ (s : Step). s .next) ss
 
-weigh-path : (a : Bytes) (ss : List Step) → weigh (a ∷ nexts ss) ≡ 4 + 4 * length ss + length (pathBodies a ss)
+weigh-path : (a : Bytes) (ss : List Step) → total weight (a ∷ nexts ss) ≡ 4 + 4 * length ss + length (pathBodies a ss)
 unfolding pathBodies
 weigh-path a [] = omega arith
 weigh-path a (s ∷ ss) = omega (arith, weigh-path (s .next) ss, length-append a (pathBodies (s .next) ss))
@@ -141,5 +100,5 @@ module _ (g h : GraphName) where
       let own : List·Memᴰ a (names g ++ names h) = Memᴰ·append-left (names h) (own-listed g a (rw n (List·Memᴰ·head refl))) in
       let all : (y : Bytes) → List·Memᴰ y (a ∷ nexts ss) → List·Memᴰ y (names g ++ names h) =
       λ y m. ⊎-elim (λ (w : y ≡ a). Memᴰ·cast w own) (λ (w : List·Memᴰ y (nexts ss)). path-listed e ss a (q .path) y w) (List·Memᴰ·cases-cons m) in
-      let l = once-weighs (a ∷ nexts ss) (names g ++ names h) (shortest-once (byEither g h) e ss a (q .path) (best-shortest (byEither g h) e a ss q)) all in
-      omega (arith, l, weigh-append (names g) (names h), weigh-bodies (names g), weigh-bodies (names h), weigh-path a ss, length-path a ss, s .count, s .room, t .count, t .room)
+      let l = total-part weight (a ∷ nexts ss) (names g ++ names h) (shortest-once (byEither g h) e ss a (q .path) (best-shortest (byEither g h) e a ss q)) all in
+      omega (arith, l, total-append weight (names g) (names h), weigh-bodies (names g), weigh-bodies (names h), weigh-path a ss, length-path a ss, s .count, s .room, t .count, t .room)

@@ -1,4 +1,4 @@
--- What stands in the bytes of a path is the path: its first name, and its legs.
+-- What stands in the bytes of a path is the path: its first name, and its steps.
 use mathlib.Core.Path.{_≡_, refl, sym, ap, _∙_}
 use mathlib.Core.List.{List, [], _∷_, _++_, append-assoc}
 use Prim.Native.Nat.{ℕ, zero, suc, _+_, _-_, _*_, _≤_, _<_}
@@ -11,9 +11,9 @@ use Rattle.model.specs.declared.Kind.the-variants.{Subgraph, Translation}
 use Rattle.model.specs.Bytes.{Bytes}
 use Rattle.model.specs.Numbers.{le16, number}
 use Rattle.model.specs.Path.{Step, kindNumber, pathEntries, pathBodies, pathBytes}
-use Rattle.model.specs.Describe.{legs}
+use Rattle.model.specs.Describe.{stepsFrom}
 use Rattle.path_bytes.proofs.PathBytes.{length-path}
-use Rattle.description_text.specs.Legs.{kindOf, legsAt, PathIn, startAt, pathLegs}
+use Rattle.describe.specs.Steps.{kindOf, stepsAt, PathIn, startAt, pathSteps}
 
 -- ------------------------------------------------------------------ numbers
 
@@ -33,7 +33,7 @@ kind-small : (k : Kind) → kindNumber k < 65536
 kind-small Subgraph = omega arith
 kind-small Translation = omega arith
 
--- ------------------------------------------------------------------ legs
+-- ------------------------------------------------------------------ steps
 
 -- entries and bodies of a path from a stand at these bytes
 pub record Stands (p : Bytes) (e at : ℕ) (a : Bytes) (ss : List Step) : Type 0 where
@@ -88,11 +88,11 @@ module _ (p : Bytes) (e at : ℕ) (a : Bytes) (s : Step) (ss : List Step) (t : S
     few = omega (arith, t .few, length-append a (pathBodies (s .next) ss));
   }
 
-pub legs-read : (ss : List Step) (a p : Bytes) (e at : ℕ) → Stands p e at a ss → legsAt p e at (length ss) ≡ legs a ss
-unfolding legsAt legs
-legs-read [] a p e at t = refl
-legs-read (s ∷ ss) a p e at t =
-    rw (name-read p e at a (s ∷ ss) t, kind-read p e at a s ss t, number-kind (s .kind), legs-read ss (s .next) p (e + 4) (at + number p e) (further p e at a s ss t))
+pub steps-read : (ss : List Step) (a p : Bytes) (e at : ℕ) → Stands p e at a ss → stepsAt p e at (length ss) ≡ stepsFrom a ss
+unfolding stepsAt stepsFrom
+steps-read [] a p e at t = refl
+steps-read (s ∷ ss) a p e at t =
+    rw (name-read p e at a (s ∷ ss) t, kind-read p e at a s ss t, number-kind (s .kind), steps-read ss (s .next) p (e + 4) (at + number p e) (further p e at a s ss t))
 
 -- ------------------------------------------------------------------ the whole bytes
 
@@ -127,7 +127,7 @@ module _ (p a : Bytes) (ss : List Step) (rest : Bytes) (d : p ≡ pathBytes a ss
   pub start-read : startAt p ≡ a
   start-read = name-read p 2 (2 + 4 * number p 0) a ss stands
 
-  pub path-legs : pathLegs p ≡ legs a ss
-  path-legs =
+  pub path-steps : pathSteps p ≡ stepsFrom a ss
+  path-steps =
       let e : number p 0 - 1 ≡ length ss = omega (arith, count-read) in
-      ap (legsAt p 2 (2 + 4 * number p 0)) e ∙ legs-read ss a p 2 (2 + 4 * number p 0) stands
+      ap (stepsAt p 2 (2 + 4 * number p 0)) e ∙ steps-read ss a p 2 (2 + 4 * number p 0) stands

@@ -1,4 +1,4 @@
--- Which way a path leads between the graphs of two records, and the texts for it. Assumes nothing.
+-- The direction of a path between the graphs of two records, and the texts for it.
 use mathlib.Core.Path.{_≡_}
 use mathlib.Core.Logic.{_≢_}
 use mathlib.Core.List.{List, _++_}
@@ -8,16 +8,16 @@ use lib.ListN.{length}
 use Rattle.model.specs.Bytes.{Bytes}
 use Rattle.model.specs.Record.{GraphName}
 use Rattle.model.specs.Layout.{decode}
-use Rattle.model.specs.Questions.{Given, gives, faultOfBoth}
+use Rattle.model.specs.Opening.{Given, gives, faultOfBoth}
 use Rattle.model.specs.Path.{Step, fullPath, pathBytes}
 use Rattle.model.specs.Describe.{afterLastEmpty, describePath}
 use Rattle.model.specs.Written.{within, withDescs}
 use Rattle.describe.specs.declared.direction.Direction.{Direction}
 use Rattle.describe.specs.declared.direction.Direction.the-variants.{Refused, Forward, Backward, Neither}
-use Rattle.description_text.specs.Legs.{roomForPath, startAt, pathLegs}
+use Rattle.describe.specs.Steps.{roomForPath, startAt, pathSteps}
 
 -- two records, with no path from the first to the second
-pub record Apart (b c : Bytes) : Type 0 where
+pub record NoPath (b c : Bytes) : Type 0 where
   pub g : GraphName
   pub h : GraphName
   pub first : decode b ≡ some g
@@ -25,7 +25,7 @@ pub record Apart (b c : Bytes) : Type 0 where
   pub path : fullPath g h ≡ none
 
 -- two records, with a path from the first to the second whose bytes stand at the front of p
-pub record Leads (b c p : Bytes) : Type 0 where
+pub record HasPath (b c p : Bytes) : Type 0 where
   pub g : GraphName
   pub h : GraphName
   pub first : decode b ≡ some g
@@ -41,14 +41,14 @@ pub record Leads (b c p : Bytes) : Type 0 where
 -- what was found, and the path's bytes
 abbrev pub Finds : Bytes → Bytes → Direction → Bytes → Type 0
 Finds b c (Refused n) p = (n ≡ faultOfBoth b c) × (n ≢ 0)
-Finds b c Forward p = Leads b c p
-Finds b c Backward p = Leads c b p × Apart b c
-Finds b c Neither p = Apart c b × Apart b c
+Finds b c Forward p = HasPath b c p
+Finds b c Backward p = HasPath c b p × NoPath b c
+Finds b c Neither p = NoPath c b × NoPath b c
 
 -- a text, after the test of the descs and of the room
-abbrev pub toldOf : Bytes → Bytes → Bytes → ℕ → Given Bytes
-toldOf t from to room = within room (withDescs from to (gives t))
+abbrev pub textWritten : Bytes → Bytes → Bytes → ℕ → Given Bytes
+textWritten t from to room = within room (withDescs from to (gives t))
 
 -- the text of the path whose bytes are p
-abbrev pub pathTold : Bytes → Bytes → Bytes → Bytes
-pathTold p from to = describePath (startAt p) (afterLastEmpty (pathLegs p)) from to
+abbrev pub pathText : Bytes → Bytes → Bytes → Bytes
+pathText p from to = describePath (startAt p) (afterLastEmpty (pathSteps p)) from to

@@ -1,12 +1,12 @@
-// The search for a path between two graphs, one way and then the other.
+// The search for a path between two graphs, in one direction and then in the other.
 use path_bytes::Reply;
 use questions::translates_to;
 ghost use mathlib.Core.Path.{_≡_};
 ghost use lib.ListN.{length};
-ghost use Rattle.description_text.specs.Legs.{roomForPath};
+ghost use Rattle.describe.specs.Steps.{roomForPath};
 ghost use Rattle.describe.specs.Direction.{Finds};
 
-// Which way a path leads: from the first graph to the second, from the second to the first, or neither; or the number of a refusal.
+// The direction of a path: from the first graph to the second, from the second to the first, or neither; or the number of a refusal.
 pub enum Direction {
     Refused(u32),
     Forward,

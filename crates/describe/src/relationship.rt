@@ -2,11 +2,9 @@
 use crate::direction::Direction;
 use crate::direction::find_path;
 use crate::direction::path_room;
-use description_text::after_last_empty;
-use description_text::none_length;
-use description_text::path_length;
-use description_text::put_none;
-use description_text::put_path;
+use crate::steps::after_last_empty;
+use crate::texts::append_no_path;
+use crate::texts::append_path;
 use export::Written;
 use text::part;
 use text::read16;
@@ -16,9 +14,9 @@ ghost use lib.Dec.{leb};
 ghost use lib.ListN.{length};
 ghost use Rattle.model.specs.Written.{relationshipWritten};
 ghost use Rattle.export.specs.Answers.{Answers};
-ghost use Rattle.description_text.specs.Legs.{PathIn};
-ghost use Rattle.description_text.specs.Lines.{noneTold, Owner};
-ghost use Rattle.describe.specs.Direction.{Finds, toldOf, pathTold};
+ghost use Rattle.describe.specs.Steps.{PathIn};
+ghost use Rattle.describe.specs.Lines.{noPathText, OwnNameIn};
+ghost use Rattle.describe.specs.Direction.{Finds, textWritten, pathText};
 
 // Whether neither desc is over 4,096 bytes.
 fn short(from: &[u8], to: &[u8]) -> bool
@@ -30,40 +28,42 @@ fn short(from: &[u8], to: &[u8]) -> bool
 // Writes the text of the path whose bytes are given.
 fn describe_path(path: &[u8], from: &[u8], to: &[u8], out: &mut [u8]) -> Written
     requires { ⌜ PathIn (now path) ⌝ }
-    ensures { λ r. ⌜ Answers (toldOf (pathTold (now (path .entry)) (now (from .entry)) (now (to .entry))) (now (from .entry)) (now (to .entry)) (length (now (out .entry)))) (now (out .entry)) r (now (out .exit)) ⌝ }
+    ensures { λ r. ⌜ Answers (textWritten (pathText (now (path .entry)) (now (from .entry)) (now (to .entry))) (now (from .entry)) (now (to .entry)) (length (now (out .entry)))) (now (out .entry)) r (now (out .exit)) ⌝ }
 {
     if !short(from, to) {
         return Written::Refused(18);
     }
     let n = read16(path, 0);
-    let legs = after_last_empty(path, 2, 2 + 4 * n, n - 1);
-    let entry = legs.entry;
-    let body = legs.body;
-    let count = legs.count;
+    let steps = after_last_empty(path, 2, 2 + 4 * n, n - 1);
+    let entry = steps.entry;
+    let body = steps.body;
+    let count = steps.count;
     let start = part(path, 2 + 4 * n, read16(path, 2));
-    if out.len() < path_length(path, entry, body, count, start, from, to) {
+    let mut none: [u8; 0] = [];
+    if out.len() < append_path(&mut none, path, entry, body, count, start, from, to) {
         return Written::Refused(17);
     }
-    Written::Wrote(put_path(out, path, entry, body, count, start, from, to))
+    Written::Wrote(append_path(out, path, entry, body, count, start, from, to))
 }
 
 // Writes the text of two graphs with no path between them.
-fn describe_none(b: &[u8], c: &[u8], from: &[u8], to: &[u8], out: &mut [u8]) -> Written
-    requires { ⌜ Owner (now b) × Owner (now c) ⌝ }
-    ensures { λ r. ⌜ Answers (toldOf (noneTold (now (b .entry)) (now (c .entry)) (now (from .entry)) (now (to .entry))) (now (from .entry)) (now (to .entry)) (length (now (out .entry)))) (now (out .entry)) r (now (out .exit)) ⌝ }
+fn describe_no_path(b: &[u8], c: &[u8], from: &[u8], to: &[u8], out: &mut [u8]) -> Written
+    requires { ⌜ OwnNameIn (now b) × OwnNameIn (now c) ⌝ }
+    ensures { λ r. ⌜ Answers (textWritten (noPathText (now (b .entry)) (now (c .entry)) (now (from .entry)) (now (to .entry))) (now (from .entry)) (now (to .entry)) (length (now (out .entry)))) (now (out .entry)) r (now (out .exit)) ⌝ }
 {
     if !short(from, to) {
         return Written::Refused(18);
     }
-    if out.len() < none_length(b, c, from, to) {
+    let mut none: [u8; 0] = [];
+    if out.len() < append_no_path(&mut none, b, c, from, to) {
         return Written::Refused(17);
     }
-    Written::Wrote(put_none(out, b, c, from, to))
+    Written::Wrote(append_no_path(out, b, c, from, to))
 }
 
 // Writes what was found, the sides exchanged unless the path leads from the first graph to the second.
 fn describe_found(
-    way: Direction,
+    found: Direction,
     path: &[u8],
     b: &[u8],
     c: &[u8],
@@ -71,14 +71,14 @@ fn describe_found(
     other_desc: &[u8],
     out: &mut [u8],
 ) -> Written
-    requires { ⌜ Finds (now b) (now c) way (now path) ⌝ }
+    requires { ⌜ Finds (now b) (now c) found (now path) ⌝ }
     ensures { λ r. ⌜ Answers (relationshipWritten (now (b .entry)) (now (c .entry)) (now («self_desc» .entry)) (now («other_desc» .entry)) (length (now (out .entry)))) (now (out .entry)) r (now (out .exit)) ⌝ }
 {
-    match way {
+    match found {
         Direction::Refused(n) => Written::Refused(n),
         Direction::Forward => describe_path(path, self_desc, other_desc, out),
         Direction::Backward => describe_path(path, other_desc, self_desc, out),
-        Direction::Neither => describe_none(c, b, other_desc, self_desc, out),
+        Direction::Neither => describe_no_path(c, b, other_desc, self_desc, out),
     }
 }
 
@@ -93,6 +93,6 @@ pub fn describe_relationship<'a>(
     ensures { λ r. ⌜ Answers (relationshipWritten (now (b .entry)) (now (c .entry)) (now («self_desc» .entry)) (now («other_desc» .entry)) (length (now (out .entry)))) (now (out .entry)) r (now (out .exit)) ⌝ }
 {
     let mut path = path_room();
-    let way = find_path(b, c, &mut path);
-    describe_found(way, &path, b, c, self_desc, other_desc, out)
+    let found = find_path(b, c, &mut path);
+    describe_found(found, &path, b, c, self_desc, other_desc, out)
 }

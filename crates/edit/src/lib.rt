@@ -1,4 +1,8 @@
-// Making and changing records: the operations on record buffers.
+// Making and changing records: the operations on record buffers, and the change over the working tables that they share.
+mod arrays;
+mod changing;
+mod keeping;
+mod merging;
 mod operations;
 
 pub use operations::add_relationships;

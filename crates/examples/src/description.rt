@@ -1,14 +1,14 @@
 // docs/FORMAT.md, example 15: A is a subgraph of B, and their relationship is described with the texts p and q, self being A.
 use crate::program::written;
+use record::empty_record;
 use test_examples::Counts;
 use test_examples::number;
-use test_examples::record_buffer;
 
 // All of example 15.
 pub(crate) fn run(c: Counts) -> Counts {
-    let mut space = record_buffer();
+    let mut space = empty_record();
     let a: &mut [u8] = &mut space;
-    let mut other_space = record_buffer();
+    let mut other_space = empty_record();
     let b: &mut [u8] = &mut other_space;
     let d = number(c, b"15 record of A ", edit::new(b"A", a) as usize, 0);
     let e = number(d, b"15 record of B ", edit::new(b"B", b) as usize, 0);

@@ -4,10 +4,10 @@ mod description;
 mod program;
 
 use test_examples::Counts;
-use test_examples::print;
-use test_examples::print_number;
 use test_examples::run_lines;
 use test_examples::run_sizes;
+use test_output::print;
+use test_output::print_number;
 
 fn main() {
     let none = Counts {

@@ -2,15 +2,15 @@
 use accessors::GivenCounts;
 use export::Written;
 use parse::Answer;
+use record::empty_record;
 use test_examples::Counts;
 use test_examples::judged;
 use test_examples::number;
-use test_examples::print;
-use test_examples::print_number;
-use test_examples::put;
-use test_examples::put_text;
-use test_examples::record_buffer;
 use test_examples::shown;
+use test_output::print;
+use test_output::print_number;
+use test_output::put;
+use test_output::put_text;
 
 // The text that a writer put to the front of the output, beside the one that is stated.
 pub(crate) fn written(c: Counts, label: &[u8], w: Written, out: &[u8], stated: &[u8]) -> Counts {
@@ -38,17 +38,12 @@ fn counts(c: Counts, b: &[u8]) -> Counts {
 
 // The counts and the GAF lines of the example's record.
 fn lines_read(c: Counts) -> Counts {
-    let mut space = record_buffer();
+    let mut space = empty_record();
     let b: &mut [u8] = &mut space;
     let t = b"H\tVN:Z:1.1\tNM:Z:b2\n@SG\tb2\tb1\nH\tTL:Z:b1,a\n";
     match parse::from_header_lines(t, b) {
         Answer::Done => (),
-        Answer::Refused {
-            number: n,
-            line: _,
-            start: _,
-            size: _,
-        } => return number(c, b"16 refused ", n, 0),
+        Answer::Refused(r) => return number(c, b"16 refused ", r.number, 0),
     }
     let d = counts(c, b);
     let mut room = io::buffer();
@@ -65,7 +60,7 @@ fn lines_read(c: Counts) -> Counts {
 
 // The refusal with number 6 in line 1, and its message.
 fn refusal(c: Counts) -> Counts {
-    let mut space = record_buffer();
+    let mut space = empty_record();
     let b: &mut [u8] = &mut space;
     let t = b"@RN\t";
     match parse::from_header_lines(t, b) {
@@ -73,17 +68,12 @@ fn refusal(c: Counts) -> Counts {
             print(b"16 not refused");
             judged(c, false)
         }
-        Answer::Refused {
-            number: n,
-            line,
-            start,
-            size,
-        } => {
-            let d = number(c, b"16 refused ", n, 6);
-            let e = number(d, b"16 refused in line ", line, 1);
+        Answer::Refused(r) => {
+            let d = number(c, b"16 refused ", r.number, 6);
+            let e = number(d, b"16 refused in line ", r.line, 1);
             let mut room = io::buffer();
             let out: &mut [u8] = &mut room;
-            let w = export::error_message(n, line, text::part(t, start, size), out);
+            let w = export::error_message(r.number, r.line, text::part(t, r.start, r.size), out);
             written(
                 e,
                 b"16 message ",
@@ -106,7 +96,7 @@ fn program_on(size: usize) {
     for _ in 4..size {
         n = put(out, n, b'x');
     }
-    report::program(text::part(out, 0, n));
+    test_report::program(text::part(out, 0, n));
 }
 
 // All of example 16. What the program prints at its limit and past it is held to the file `stdout`.

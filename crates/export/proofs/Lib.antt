@@ -1,12 +1,11 @@
+-- The texts of a record by their parts, the laws that they read back, and what a writer answers.
 pub mod Parts
 pub mod Sizes
 pub mod Adding
 pub mod Lines
 pub mod ReadBack
-pub mod Lengths
-pub mod Writes
+pub mod Texts
 pub mod Runs
 pub mod Wording
 pub mod Opened
 pub mod Answering
-pub mod Values

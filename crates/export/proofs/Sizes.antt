@@ -1,79 +1,25 @@
 -- A part of a graph name is within the sizes where the whole is: its names are among the whole's.
-use mathlib.Core.Path.{_≡_, refl, sym, ap, _∙_}
+use mathlib.Core.Path.{_≡_, refl, ap}
 use mathlib.Core.Logic.{_⊎_, inl, inr, ⊎-elim, _↔_}
 use mathlib.Core.Bool.{false}
 use mathlib.Core.List.{List, [], _∷_, _++_, List·Memᴰ, List·Memᴰ·head, List·Memᴰ·tail, List·Memᴰ·not-nil, List·Memᴰ·cases-cons, List·Memᴰ·append-cases, Memᴰ·append-left, Memᴰ·append-right}
 use mathlib.Core.Option.{Option, some}
-use Prim.Native.Nat.{ℕ, _+_, _≤_}
+use Prim.Native.Nat.{ℕ, _≤_}
 use native.Mathlib.Omega.{arith}
 use lib.ListN.{length, length-append}
 use borrow.Author.Tests.{ltb-false, le-ltb}
-use Rattle.model.specs.declared.Order.{Order}
 use Rattle.model.specs.declared.Kind.{Kind}
 use Rattle.model.specs.Questions.{pairsOf}
-use Rattle.model.specs.declared.Order.the-variants.{Less}
 use Rattle.model.specs.Bytes.{Bytes}
-use Rattle.model.specs.Record.{Pair, GraphName, names, anyLong, bodies, judge, ownName, pairNames}
-use Rattle.model.specs.Statements.{Ascending}
+use Rattle.model.specs.Record.{Pair, GraphName, names, anyLong, judge, ownName, pairNames}
 use Rattle.text.proofs.Tests.{either-false}
 use Rattle.record.proofs.Names.{allNames, names-ascending, names-members, own-listed, pair-listed}
 use Rattle.record.proofs.Sizes.{Sizes, judge-sizes, sizes-judge}
-use Rattle.text.proofs.Order.{StrictOrder, bytes-order}
-use Rattle.text.proofs.Ascending.{ascending-tail, ascending-below, less-irrefl, less-asym}
-
--- ------------------------------------------------------------------ sums over an ascending list
-
-unfoldable pub total : {A : Type 0} → (A → ℕ) → List A → ℕ
-total w [] = 0
-total w (x ∷ xs) = w x + total w xs
+use Rattle.text.proofs.Order.{bytes-order}
+use Rattle.text.proofs.Total.{total, total-count, total-bodies, ascending-once, total-part}
 
 abbrev pub Among : {A : Type 0} → List A → List A → Type 0
 Among {A} xs ys = (z : A) → List·Memᴰ z xs → List·Memᴰ z ys
-
-module _ {A : Type 0} {cmp : A → A → Order} (ord : StrictOrder cmp) (w : A → ℕ) where
-  pub total-among : (xs ys : List A) → Ascending cmp xs → Ascending cmp ys → Among xs ys → total w xs ≤ total w ys
-  unfolding total
-  total-among [] ys a b h = omega arith
-  total-among (x ∷ xs) [] a b h = absurd (List·Memᴰ·not-nil (h x (List·Memᴰ·head refl)))
-  total-among (x ∷ xs) (y ∷ ys) a b h =
-      go (List·Memᴰ·cases-cons (h x (List·Memᴰ·head refl)))
-      (total-among xs ys (ascending-tail cmp x xs a) (ascending-tail cmp y ys b))
-      (total-among (x ∷ xs) ys a (ascending-tail cmp y ys b))
-    where
-      above : (z : A) → List·Memᴰ z xs → cmp x z ≡ Less
-      above = ascending-below ord x xs a
-
-      -- with the same first element, the rest is among the rest
-      rest : x ≡ y → Among xs ys
-      rest e z m = ⊎-elim (λ (d : z ≡ y). absurd (less-irrefl ord x (rw (d ∙ sym e) at (above z m)))) (λ (n : List·Memᴰ z ys). n) (List·Memᴰ·cases-cons (h z (List·Memᴰ·tail m)))
-
-      -- with a later first element, all is among the rest
-      all : List·Memᴰ x ys → Among (x ∷ xs) ys
-      all m z n = ⊎-elim (λ (d : z ≡ y). absurd (first (List·Memᴰ·cases-cons n) d)) (λ (k : List·Memᴰ z ys). k) (List·Memᴰ·cases-cons (h z n))
-        where
-          less : cmp y x ≡ Less
-          less = ascending-below ord y ys b x m
-
-          first : (z ≡ x) ⊎ List·Memᴰ z xs → z ≡ y → ⊥
-          first (inl e) d = less-irrefl ord y (rw (sym e ∙ d) at less)
-          first (inr k) d = less-asym ord x y (rw d at (above z k)) less
-
-      go : (x ≡ y) ⊎ List·Memᴰ x ys → (Among xs ys → total w xs ≤ total w ys) → (Among (x ∷ xs) ys → total w (x ∷ xs) ≤ total w ys)
-          → w x + total w xs ≤ w y + total w ys
-      go (inl e) same later = omega (arith, same (rest e), ap w e)
-      go (inr m) same later = omega (arith, later (all m))
-
--- ------------------------------------------------------------------ the sizes
-
-length-total : {A : Type 0} (xs : List A) → length xs ≡ total (λ x. 1) xs
-unfolding total
-length-total [] = refl
-length-total (x ∷ xs) = omega (arith, length-total xs)
-
-bodies-total : (ns : List Bytes) → length (bodies ns) ≡ total length ns
-unfolding total
-bodies-total [] = refl
-bodies-total (n ∷ ns) = rw (length-append n (bodies ns), bodies-total ns)
 
 short-names : (ns : List Bytes) → anyLong ns ≡ false ↔ ((n : Bytes) → List·Memᴰ n ns → length n ≤ 256)
 short-names [] = (λ e n m. absurd (List·Memᴰ·not-nil m), λ h. refl)
@@ -93,15 +39,15 @@ judge-fewer g h m s t e = sizes-judge h (fits (judge-sizes g e))
     among n k = names-members g n .1 (m n (names-members h n .0 k))
 
     fewer : (w : Bytes → ℕ) → total w (names h) ≤ total w (names g)
-    fewer w = total-among bytes-order w (names h) (names g) (names-ascending h) (names-ascending g) among
+    fewer w = total-part w (names h) (names g) (ascending-once bytes-order (names h) (names-ascending h)) among
 
     fits : Sizes g → Sizes h
     fits z = record {
       short = short-names (names h) .1 (λ n k. short-names (names g) .0 (z .short) n (among n k));
-      count = omega (arith, length-total (names h), length-total (names g), fewer (λ n. 1));
+      count = omega (arith, total-count (names h), total-count (names g), fewer (λ n. 1));
       subgraphs = omega arith;
       translations = omega arith;
-      room = omega (arith, bodies-total (names h), bodies-total (names g), fewer length);
+      room = omega (arith, total-bodies (names h), total-bodies (names g), fewer length);
     }
 
 -- ------------------------------------------------------------------ the first pairs of each kind

@@ -1,10 +1,11 @@
--- What each case of a writer's answer means: a refusal's number, or how many bytes were written. Assumes nothing.
+-- What each case of a writer's answer means: a refusal's number, or how many bytes were written.
 use mathlib.Core.Path.{_≡_}
 use mathlib.Core.Option.{Option, some, none}
 use Prim.Native.Nat.{ℕ}
 use lib.ListN.{length}
 use Rattle.model.specs.Bytes.{Bytes}
-use Rattle.model.specs.Questions.{Given, refuses, gives, mapped}
+use Rattle.model.specs.Questions.{mapped}
+use Rattle.model.specs.Opening.{Given, refuses, gives}
 use Rattle.model.specs.Written.{sizeWritten, outputWith, Tags, TagSizes, tagSizes, putValue, outputWithTag}
 use Rattle.export.specs.declared.answer.Written.{Written}
 use Rattle.export.specs.declared.answer.Written.the-variants.{Refused, Wrote}

@@ -1,25 +1,27 @@
--- What the writers ask of a buffer and a run of pairs in it. Assumes nothing.
+-- What the writers ask of a buffer: that the counts, the entries and the pairs which they read lie within it.
 use mathlib.Core.Path.{_≡_}
-use Prim.Native.Nat.{ℕ, zero, suc, _+_, _*_, _≤_, _<_}
+use Prim.Native.Nat.{ℕ, _+_, _*_, _≤_, _<_}
 use lib.ListN.{length}
+use Rattle.model.specs.declared.Kind.{Kind}
 use Rattle.model.specs.Bytes.{Bytes}
-use Rattle.model.specs.Numbers.{number}
-use Rattle.record.specs.Test.{subgraphAt, translationAt}
+use Rattle.model.specs.Layout.{countsLength, entryLength, pairLength, entryAt, ownNumber, pairCount, tableAt, bodiesAt, fromPlace, toPlace}
 
--- the places of `count` pairs from byte `at` on are below n
-unfoldable pub PlacesBelow : ℕ → Bytes → ℕ → ℕ → Type 0
-PlacesBelow n b at zero = Unit {0}
-PlacesBelow n b at (suc k) = (number b at < n) × (number b (at + 2) < n) × PlacesBelow n b (at + 4) k
+-- the entry of the name at place i lies within b
+abbrev pub HasEntry : Bytes → ℕ → Type 0
+HasEntry b i = entryAt i + entryLength ≤ length b
 
--- a buffer of a record's size has `count` pairs from byte `at` on, whose places have entries in it
+-- there are `count` pairs from byte `at` on, whose places have entries
 pub record PairsIn (b : Bytes) (at count : ℕ) : Type 0 where
-  pub size : length b ≡ 32768
-  pub end : at + 4 * count ≤ 32768
-  pub places : PlacesBelow 1024 b at count
+  pub end : at + pairLength * count ≤ length b
+  pub places : (i : ℕ) → i < count → HasEntry b (fromPlace b (at + pairLength * i)) × HasEntry b (toPlace b (at + pairLength * i))
 
--- the own name's place and both runs of pairs of a record
+-- the bodies of the names stand from byte `bodies` on
+pub record BodiesAt (b : Bytes) (bodies : ℕ) : Type 0 where
+  pub start : bodies ≡ bodiesAt b
+  pub near : bodies < 4294967296
+
+-- the counts, the own name's entry and the pairs of each kind
 pub record RecordIn (b : Bytes) : Type 0 where
-  pub size : length b ≡ 32768
-  pub own : number b 2 ≤ 1024
-  pub subgraph : PairsIn b (subgraphAt b) (number b 4)
-  pub translation : PairsIn b (translationAt b) (number b 6)
+  pub counts : countsLength ≤ length b
+  pub own : entryAt (ownNumber b) ≤ length b
+  pub pairs : (k : Kind) → PairsIn b (tableAt k b) (pairCount k b)

@@ -1,32 +1,31 @@
--- A refusal's text in three parts, as it is written: the line, the words of its number, and the quoted part. Assumes nothing.
+-- A refusal's text in three parts, as it is written: the line, the words of its number, and the quoted part.
 use mathlib.Core.Bool.{cond}
-use mathlib.Core.List.{[], _++_}
+use mathlib.Core.List.{List, [], _∷_, _++_}
 use Prim.Native.Nat.{ℕ}
-use lib.Dec.{eqb, ltb}
+use lib.Dec.{ltb}
+use lib.ListN.{take, drop, getD}
 use Rattle.model.specs.Text.{text}
 use Rattle.model.specs.Bytes.{Bytes}
 use Rattle.model.specs.Numbers.{decimal}
 
--- t for the numbers from `low` to `high`, and nothing for the others
-abbrev pub onlyFor : ℕ → ℕ → ℕ → Bytes → Bytes
-onlyFor low high number t = cond (ltb number low) [] (cond (ltb high number) [] t)
-
+-- for the numbers up to 2
 unfoldable pub lineWords : ℕ → ℕ → Bytes
-lineWords number line = onlyFor 1 2 number (text "Error parsing header line " ++ decimal line)
+lineWords number line = cond (ltb 2 number) [] (text "Error parsing header line " ++ decimal line)
 
+-- the words of all numbers, where those of each start, and how long they are
+abbrev pub allWords : Bytes
+allWords = text ": not enough fields: unknown first field Invalid GFA typed field: Invalid subgraph field: Invalid translation field: Invalid GAF name header line: Invalid GAF subgraph header line: Invalid GAF translation header line: Invalid subgraph relationship: Invalid translation relationship: "
+
+abbrev pub starts : List ℕ
+starts = 0 ∷ 0 ∷ 19 ∷ 41 ∷ 66 ∷ 90 ∷ 117 ∷ 147 ∷ 181 ∷ 218 ∷ 249 ∷ []
+
+abbrev pub sizes : List ℕ
+sizes = 0 ∷ 19 ∷ 22 ∷ 25 ∷ 24 ∷ 27 ∷ 30 ∷ 34 ∷ 37 ∷ 31 ∷ 34 ∷ []
+
+-- the words of one number
 unfoldable pub numberWords : ℕ → Bytes
-numberWords number =
-    cond (eqb number 1) (text ": not enough fields")
-    (cond (eqb number 2) (text ": unknown first field ")
-    (cond (eqb number 3) (text "Invalid GFA typed field: ")
-    (cond (eqb number 4) (text "Invalid subgraph field: ")
-    (cond (eqb number 5) (text "Invalid translation field: ")
-    (cond (eqb number 6) (text "Invalid GAF name header line: ")
-    (cond (eqb number 7) (text "Invalid GAF subgraph header line: ")
-    (cond (eqb number 8) (text "Invalid GAF translation header line: ")
-    (cond (eqb number 9) (text "Invalid subgraph relationship: ")
-    (cond (eqb number 10) (text "Invalid translation relationship: ")
-    [])))))))))
+numberWords number = take (getD sizes number 0) (drop (getD starts number 0) allWords)
 
+-- for the numbers from 2 on
 unfoldable pub quoted : ℕ → Bytes → Bytes
-quoted number part = onlyFor 2 10 number part
+quoted number part = cond (ltb number 2) [] part

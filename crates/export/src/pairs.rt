@@ -1,81 +1,101 @@
-// The pairs of a record as text: lines of either format, and the relations of a tag.
+// The pairs of a record as text: the lines of either format, and the relations of a tag.
+use model::Kind;
+use record::PAIR_LENGTH;
 use record::bodies_at;
 use record::name_in;
+use record::pair_count;
 use record::pair_from;
 use record::pair_to;
-use text::copy;
-use text::put_byte;
-ghost use mathlib.Core.Path.{_≡_};
-ghost use Prim.Native.Nat.{_+_, _≤_, _<_};
-ghost use lib.ListN.{length};
-ghost use Rattle.model.specs.Layout.{pairsFrom};
-ghost use Rattle.export.specs.Texts.{Wrote, pairText, pairTexts, pairsSize};
-ghost use Rattle.export.specs.Places.{PairsIn};
+use record::table_at;
+use text::append;
+use text::append_byte;
+ghost use Rattle.model.specs.Layout.{fromPlace, toPlace, nameAt, pairsFrom, shown};
+ghost use Rattle.model.specs.Questions.{pairsOf};
+ghost use Rattle.text.specs.Appending.{Appends};
+ghost use Rattle.export.specs.Texts.{pairText, pairTexts, pairsText};
+ghost use Rattle.export.specs.Places.{BodiesAt, PairsIn, RecordIn};
 
-// How long the text of `count` pairs from byte `pairs` on is, with `beyond` bytes besides the two names of each.
-pub fn pairs_length(b: &[u8], pairs: usize, count: usize, beyond: usize) -> usize
-    requires { ⌜ PairsIn (now b) pairs count × (beyond ≤ 16) ⌝ }
-    ensures { λ r. ⌜ (r ≡ pairsSize beyond (pairsFrom (now (b .entry)) pairs count)) × (r < 4294967296) ⌝ }
-{
-    let bodies = bodies_at(b);
-    let mut size = 0;
-    let mut p = pairs;
-    let mut left = count;
-    while 0 < left {
-        let from = name_in(b, bodies, pair_from(b, p));
-        let to = name_in(b, bodies, pair_to(b, p));
-        size += beyond + from.len() + to.len();
-        p += 4;
-        left -= 1;
-    }
-    size
-}
-
-// Writes a pair's two names with `before`, `between` and `after`.
-pub fn put_pair(
-    out: &mut [u8],
-    at: usize,
-    before: &[u8],
-    from: &[u8],
-    between: u8,
-    to: &[u8],
-    after: &[u8],
-) -> usize
-    requires { ⌜ at + length (pairText (now before) between (now after) (record { from = now from; to = now to })) ≤ length (now out) ⌝ }
-    ensures { λ r. ⌜ Wrote (now (out .entry)) at
-        (pairText (now (before .entry)) between (now (after .entry)) (record { from = now (from .entry); to = now (to .entry) })) r (now (out .exit)) ⌝ }
-{
-    let p = copy(out, at, before);
-    let q = copy(out, p, from);
-    let r = put_byte(out, q, between);
-    let s = copy(out, r, to);
-    copy(out, s, after)
-}
-
-// Writes the `count` pairs from byte `pairs` on, each with `before`, `between` and `after`.
-pub fn put_pairs(
+// Appends the two names of the pair at byte `pair` with `before`, `between` and `after`.
+fn append_pair(
     out: &mut [u8],
     at: usize,
     b: &[u8],
+    bodies: usize,
+    pair: usize,
+    before: &[u8],
+    between: u8,
+    after: &[u8],
+) -> usize
+    requires { ⌜ BodiesAt (now b) bodies × PairsIn (now b) pair 1 ⌝ }
+    ensures { λ r. ⌜ Appends (now (out .entry)) at
+        (pairText (now (before .entry)) between (now (after .entry)) (nameAt (now (b .entry)) (fromPlace (now (b .entry)) pair)) (nameAt (now (b .entry)) (toPlace (now (b .entry)) pair))) r (now (out .exit)) ⌝ }
+{
+    let from = name_in(b, bodies, pair_from(b, pair));
+    let to = name_in(b, bodies, pair_to(b, pair));
+    let p = append(out, at, before);
+    let q = append(out, p, from);
+    let r = append_byte(out, q, between);
+    let s = append(out, r, to);
+    append(out, s, after)
+}
+
+// Appends the `count` pairs from byte `pairs` on, each with `before`, `between` and `after`.
+fn append_run(
+    out: &mut [u8],
+    at: usize,
+    b: &[u8],
+    bodies: usize,
     pairs: usize,
     count: usize,
     before: &[u8],
     between: u8,
     after: &[u8],
 ) -> usize
-    requires { ⌜ PairsIn (now b) pairs count × (at + length (pairTexts (now before) between (now after) (pairsFrom (now b) pairs count)) ≤ length (now out)) ⌝ }
-    ensures { λ r. ⌜ Wrote (now (out .entry)) at (pairTexts (now (before .entry)) between (now (after .entry)) (pairsFrom (now (b .entry)) pairs count)) r (now (out .exit)) ⌝ }
+    requires { ⌜ BodiesAt (now b) bodies × PairsIn (now b) pairs count ⌝ }
+    ensures { λ r. ⌜ Appends (now (out .entry)) at (pairTexts (now (before .entry)) between (now (after .entry)) (pairsFrom (now (b .entry)) pairs count)) r (now (out .exit)) ⌝ }
 {
-    let bodies = bodies_at(b);
     let mut q = at;
     let mut p = pairs;
     let mut left = count;
     while 0 < left {
-        let from = name_in(b, bodies, pair_from(b, p));
-        let to = name_in(b, bodies, pair_to(b, p));
-        q = put_pair(out, q, before, from, between, to, after);
-        p += 4;
+        q = append_pair(out, q, b, bodies, p, before, between, after);
+        p += PAIR_LENGTH;
         left -= 1;
     }
     q
+}
+
+// Appends the pairs of a kind, each with `between` and `after`, the first with `first` before it and each other with `before`.
+pub(crate) fn append_pairs(
+    out: &mut [u8],
+    at: usize,
+    b: &[u8],
+    kind: Kind,
+    first: &[u8],
+    before: &[u8],
+    between: u8,
+    after: &[u8],
+) -> usize
+    requires { ⌜ RecordIn (now b) ⌝ }
+    ensures { λ r. ⌜ Appends (now (out .entry)) at
+        (pairsText (now (first .entry)) (now (before .entry)) between (now (after .entry)) (pairsOf kind (shown (now (b .entry))))) r (now (out .exit)) ⌝ }
+{
+    let count = pair_count(b, kind);
+    if count == 0 {
+        return at;
+    }
+    let bodies = bodies_at(b);
+    let pairs = table_at(b, kind);
+    let q = append_run(out, at, b, bodies, pairs, 1, first, between, after);
+    append_run(
+        out,
+        q,
+        b,
+        bodies,
+        pairs + PAIR_LENGTH,
+        count - 1,
+        before,
+        between,
+        after,
+    )
 }

@@ -1,64 +1,72 @@
 // A record as the values of three tags: its name, and the relations of each kind.
 use crate::answer::Tag;
 use crate::answer::WrittenTags;
-use crate::header::own_length;
-use crate::pairs::pairs_length;
-use crate::pairs::put_pair;
-use crate::pairs::put_pairs;
+use crate::header::append_name;
+use crate::pairs::append_pairs;
 use model::Kind;
-use record::name_at;
-use record::own_place;
+use record::has_name;
 use record::pair_count;
-use record::pair_from;
-use record::pair_to;
-use record::table_at;
-use text::copy;
 ghost use mathlib.Core.Path.{_≡_};
-ghost use Prim.Native.Nat.{_≤_, _<_};
+ghost use mathlib.Core.Bool.{true, _&&_};
+ghost use Prim.Native.Nat.{_<_};
 ghost use lib.ListN.{length};
-ghost use Rattle.model.specs.Numbers.{number};
-ghost use Rattle.model.specs.Layout.{ownAt, pairsFrom};
+ghost use Rattle.model.specs.Layout.{shown};
+ghost use Rattle.model.specs.Questions.{pairsOf};
 ghost use Rattle.model.specs.Writing.{relationsTag};
-ghost use Rattle.model.specs.Written.{tagsWritten};
-ghost use Rattle.export.specs.Texts.{valueSize};
-ghost use Rattle.export.specs.Places.{RecordIn, PairsIn};
+ghost use Rattle.model.specs.Written.{fits, tagsWritten};
+ghost use Rattle.text.specs.Appending.{Appends};
+ghost use Rattle.export.specs.Texts.{valueText};
+ghost use Rattle.export.specs.Places.{RecordIn};
 ghost use Rattle.export.specs.Answers.{TagAnswers, AllAnswers};
 
-// How long the value for `count` pairs from byte `pairs` on is; 0 where there is none.
-fn tag_length(b: &[u8], pairs: usize, count: usize) -> usize
-    requires { ⌜ PairsIn (now b) pairs count ⌝ }
-    ensures { λ r. ⌜ r ≡ valueSize (relationsTag (pairsFrom (now (b .entry)) pairs count)) ⌝ }
+// Appends the relations of a kind to the front of the output: `from,to` for each pair, semicolons between.
+fn append_relations(out: &mut [u8], b: &[u8], kind: Kind) -> usize
+    requires { ⌜ RecordIn (now b) ⌝ }
+    ensures { λ r. ⌜ Appends (now (out .entry)) 0 (valueText (relationsTag (pairsOf kind (shown (now (b .entry)))))) r (now (out .exit)) ⌝ }
 {
-    if count == 0 {
-        return 0;
-    }
-    pairs_length(b, pairs, count, 2) - 1
+    append_pairs(out, 0, b, kind, b"", b";", 44, b"")
 }
 
-// Writes the value for `count` pairs from byte `pairs` on: a semicolon before each pair but the first.
-fn put_tag(out: &mut [u8], b: &[u8], pairs: usize, count: usize) -> Tag
-    requires { ⌜ PairsIn (now b) pairs count × (valueSize (relationsTag (pairsFrom (now b) pairs count)) ≤ length (now out)) ⌝ }
-    ensures { λ r. ⌜ TagAnswers (relationsTag (pairsFrom (now (b .entry)) pairs count)) (now (out .entry)) r (now (out .exit)) ⌝ }
+// Whether each value fits an output of so many bytes.
+fn all_fit(b: &[u8], name: usize, subgraph: usize, translation: usize) -> bool
+    requires { ⌜ RecordIn (now b) × (name < 18446744073709551615) × (subgraph < 18446744073709551615) × (translation < 18446744073709551615) ⌝ }
+    ensures { λ r. ⌜ r ≡ (fits (shown (now (b .entry)) .name) name && (fits (relationsTag (shown (now (b .entry)) .subgraph)) subgraph && fits (relationsTag (shown (now (b .entry)) .translation)) translation)) ⌝ }
 {
-    if count == 0 {
-        return Tag::Absent;
+    let mut none: [u8; 0] = [];
+    if name < append_name(&mut none, 0, b, b"", b"") {
+        return false;
     }
-    let from = name_at(b, pair_from(b, pairs));
-    let to = name_at(b, pair_to(b, pairs));
-    let q = put_pair(out, 0, b"", from, 44, to, b"");
-    Tag::Size(put_pairs(out, q, b, pairs + 4, count - 1, b";", 44, b""))
+    if subgraph < append_relations(&mut none, b, Kind::Subgraph) {
+        return false;
+    }
+    if translation < append_relations(&mut none, b, Kind::Translation) {
+        return false;
+    }
+    true
 }
 
 // Writes the own name, if there is one.
-fn put_name(out: &mut [u8], b: &[u8]) -> Tag
-    requires { ⌜ RecordIn (now b) × (valueSize (ownAt (now b) (number (now b) 2)) ≤ length (now out)) ⌝ }
-    ensures { λ r. ⌜ TagAnswers (ownAt (now (b .entry)) (number (now (b .entry)) 2)) (now (out .entry)) r (now (out .exit)) ⌝ }
+fn write_name(out: &mut [u8], b: &[u8]) -> Tag
+    requires { ⌜ RecordIn (now b) × (fits (shown (now b) .name) (length (now out)) ≡ true) ⌝ }
+    ensures { λ r. ⌜ TagAnswers (shown (now (b .entry)) .name) (now (out .entry)) r (now (out .exit)) ⌝ }
 {
-    let own = own_place(b);
-    if own == 0 {
+    let size = append_name(out, 0, b, b"", b"");
+    if !has_name(b) {
         return Tag::Absent;
     }
-    Tag::Size(copy(out, 0, name_at(b, own - 1)))
+    Tag::Size(size)
+}
+
+// Writes the relations of a kind, if there are any.
+fn write_relations(out: &mut [u8], b: &[u8], kind: Kind) -> Tag
+    requires { ⌜ RecordIn (now b) × (fits (relationsTag (pairsOf kind (shown (now b)))) (length (now out)) ≡ true) ⌝ }
+    ensures { λ r. ⌜ TagAnswers (relationsTag (pairsOf kind (shown (now (b .entry))))) (now (out .entry)) r (now (out .exit)) ⌝ }
+{
+    let size = append_relations(out, b, kind);
+    if pair_count(b, kind) == 0 {
+        return Tag::Absent;
+    }
+    Tag::Size(size)
 }
 
 // Writes the values of the three tags, each to the front of its own output, and none unless all fit.
@@ -72,29 +80,16 @@ pub fn set_tags(
         (tagsWritten (now (b .entry)) (length (now (name .entry))) (length (now (subgraph .entry))) (length (now (translation .entry))))
         (now (name .entry)) (now (subgraph .entry)) (now (translation .entry)) r (now (name .exit)) (now (subgraph .exit)) (now (translation .exit)) ⌝ }
 {
-    let wrong = record::fault(b);
-    if wrong != 0 {
-        return WrittenTags::Refused(wrong);
+    let number = record::fault(b);
+    if number != 0 {
+        return WrittenTags::Refused(number);
     }
-    let first = table_at(b, Kind::Subgraph);
-    let s = pair_count(b, Kind::Subgraph);
-    let second = table_at(b, Kind::Translation);
-    let t = pair_count(b, Kind::Translation);
-    if name.len() < own_length(b, 0) {
+    if !all_fit(b, name.len(), subgraph.len(), translation.len()) {
         return WrittenTags::Refused(17);
     }
-    if subgraph.len() < tag_length(b, first, s) {
-        return WrittenTags::Refused(17);
-    }
-    if translation.len() < tag_length(b, second, t) {
-        return WrittenTags::Refused(17);
-    }
-    let own = put_name(name, b);
-    let pairs = put_tag(subgraph, b, first, s);
-    let more = put_tag(translation, b, second, t);
     WrittenTags::Are {
-        name: own,
-        subgraph: pairs,
-        translation: more,
+        name: write_name(name, b),
+        subgraph: write_relations(subgraph, b, Kind::Subgraph),
+        translation: write_relations(translation, b, Kind::Translation),
     }
 }

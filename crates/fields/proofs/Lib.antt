@@ -1,3 +1,4 @@
+-- The laws of fields: what one says, splitting by places, the rest of a reading, and one step of it.
 pub mod Classified
 pub mod Parts
 pub mod Rest

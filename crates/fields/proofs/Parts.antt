@@ -12,10 +12,10 @@ use lib.Seq.{take-all, drop-drop, length-take-le}
 use borrow.Author.Tests.{lt-leb, le-leb, leb-true, leb-false}
 use Rattle.model.specs.Bytes.{Bytes, indexOf, split}
 use Rattle.model.specs.Reading.{twoParts}
-use Rattle.fields.specs.Fields.{bad, named, relatedBy, oneNamed}
-use Rattle.fields.specs.Contents.{partsOf, Inside, fieldOf, Within}
+use Rattle.fields.specs.Fields.{fault, named, relatedBy, oneNamed}
+use Rattle.fields.specs.Contents.{partsOf, NeitherEmpty, meaningOf, PlacesIn}
 use Rattle.fields.specs.declared.field.TwoParts.{TwoParts}
-use Rattle.fields.specs.declared.field.TwoParts.the-variants.{Wrong, At}
+use Rattle.fields.specs.declared.field.TwoParts.the-variants.{Absent, At}
 use Rattle.fields.specs.declared.field.Content.the-variants.{Relation}
 use Rattle.model.specs.declared.Kind.{Kind}
 use Rattle.text.proofs.Split.{index-within, split-from}
@@ -125,19 +125,19 @@ module _ (s : Bytes) (from : ℕ) (h : from ≤ length s) where
 
   -- r is the answer about what stands there
   module _ (sep n : ℕ) (k : Kind) (r : TwoParts)
-      (p : let x = take (length s - from) (drop from s) in (partsOf x r ≡ twoParts (split sep x)) × Inside x r) where
-    abbrev whole : (partsOf (drop from s) r ≡ twoParts (split sep (drop from s))) × Inside (drop from s) r
+      (p : let x = take (length s - from) (drop from s) in (partsOf x r ≡ twoParts (split sep x)) × NeitherEmpty x r) where
+    abbrev whole : (partsOf (drop from s) r ≡ twoParts (split sep (drop from s))) × NeitherEmpty (drop from s) r
     whole = rw all-behind at p
 
-    pub relation-wrong : r ≡ Wrong → bad n ≡ relatedBy k n (twoParts (split sep (drop from s)))
-    relation-wrong e = rw (← whole .0, e)
+    pub relation-absent : r ≡ Absent → fault n ≡ relatedBy k n (twoParts (split sep (drop from s)))
+    relation-absent e = rw (← whole .0, e)
 
-    pub relation-at : (i : ℕ) → r ≡ At i → (fieldOf s (Relation k from (from + i)) ≡ relatedBy k n (twoParts (split sep (drop from s))))
-        × Within s (Relation k from (from + i))
+    pub relation-at : (i : ℕ) → r ≡ At i → (meaningOf s (Relation k from (from + i)) ≡ relatedBy k n (twoParts (split sep (drop from s))))
+        × PlacesIn s (Relation k from (from + i))
     relation-at i e =
         let n : from + i - from ≡ i = omega arith in
         let m : from + i + 1 ≡ from + (i + 1) = omega arith in
-        let w : Inside (drop from s) (At i) = rw e at (whole .1) in
+        let w : NeitherEmpty (drop from s) (At i) = rw e at (whole .1) in
         (rw (← whole .0, e, n, m, drop-drop (i + 1) from s), omega (arith, w .1, length-drop from s))
 
 one-name : (w : Bytes) → 0 < length w → named w ≡ oneNamed (w ∷ [])
@@ -146,7 +146,7 @@ one-name (x ∷ w) h = refl
 
 -- e is the place of the next separator from i on, or the end of s
 module _ (sep : ℕ) (s : Bytes) (i : ℕ) where
-  pub no-name : length s ≤ i → bad 6 ≡ oneNamed (split sep (drop i s))
+  pub no-name : length s ≤ i → fault 6 ≡ oneNamed (split sep (drop i s))
   unfolding split
   no-name h = rw (drop-of-length-le s h)
 
@@ -154,7 +154,7 @@ module _ (sep : ℕ) (s : Bytes) (i : ℕ) where
     from-here : split sep (drop i s) ≡ between s i e ∷ partsFrom sep s (e + 1)
     from-here = rw (← parts-more sep s i e h f, le-leb i (length s) h)
 
-    pub more-names : e < length s → bad 6 ≡ oneNamed (split sep (drop i s))
+    pub more-names : e < length s → fault 6 ≡ oneNamed (split sep (drop i s))
     more-names l = rw (from-here, parts-more sep s (e + 1) (e + 1 + indexOf sep (drop (e + 1) s)) (omega arith) refl)
 
     pub the-name : i < length s → length s ≤ e → named (drop i s) ≡ oneNamed (split sep (drop i s))

@@ -202,6 +202,6 @@ module _ (t : Bytes) (lines at e : ℕ) (g : GraphName) (h : at < length t) (f :
           ≡ afterTaken (gafLine g (take k (between t at e)) (split 9 (drop (k + 1) (between t at e)))) (restOf Header t (suc lines) (e + 1) (e + 1)) (refuse (suc lines) at (e - at))
       rest-gaf s u = rest-head ∙ rw (s, u) (whole-line t (suc lines) (e + 1) at (e - at) (gafLine g (take k (between t at e)) (split 9 (drop (k + 1) (between t at e)))))
 
-      pub rest-strange : sameBytes (take k (between t at e)) (text "H") ≡ false → isGafHead (take k (between t at e)) ≡ false
+      pub rest-unknown : sameBytes (take k (between t at e)) (text "H") ≡ false → isGafHead (take k (between t at e)) ≡ false
           → restOf Header t lines at at g ≡ refuse (suc lines) at k 2
-      rest-strange s u = rest-head ∙ rw (s, u)
+      rest-unknown s u = rest-head ∙ rw (s, u)

@@ -14,20 +14,20 @@ use Rattle.model.specs.Record.{GraphName}
 use Rattle.model.specs.Reading.{afterTaken, refuse, isGafHead}
 use Rattle.text.proofs.Tests.{both-true}
 use Rattle.fields.specs.Fields.{apply, classifyGaf, classifyPart, separatorOf}
-use Rattle.fields.specs.Contents.{fieldOf, Within}
-use Rattle.fields.specs.Rest.{restOf, OneLine, Place, lineRead, Reads}
+use Rattle.fields.specs.Contents.{meaningOf, PlacesIn}
+use Rattle.fields.specs.Rest.{restOf, OneLine, Position, lineField, Reads}
 use Rattle.fields.specs.declared.field.Source.{Source}
 use Rattle.fields.specs.declared.field.Source.the-variants.{Header, Tag}
 use Rattle.fields.specs.declared.field.Content.{Content}
 use Rattle.fields.specs.declared.field.Content.the-variants.{Fault}
 use Rattle.fields.specs.declared.step.Tally.{Tally}
-use Rattle.fields.specs.declared.step.FieldRead.{FieldRead}
+use Rattle.fields.specs.declared.step.Field.{Field}
 use Rattle.fields.proofs.Classified.{gaf-classified}
 use Rattle.fields.proofs.Parts.{between, part-within, part-length}
-use Rattle.fields.proofs.Rest.{next-part, rest-part, rest-short, rest-fields, rest-gaf, rest-strange}
+use Rattle.fields.proofs.Rest.{drop-take, next-part, rest-part, rest-short, rest-fields, rest-gaf, rest-unknown}
 
 -- the next part ends at e, where x is the text up to `stop`
-module _ (source : Source) (t : Bytes) (stop at : ℕ) (tally : Tally) (p : Place source t stop at tally) (h : at < stop) (x : Bytes)
+module _ (source : Source) (t : Bytes) (stop at : ℕ) (tally : Tally) (p : Position source t stop at tally) (h : at < stop) (x : Bytes)
     (b : x ≡ take (stop - 1) t) (sep : ℕ) (n : sep ≡ separatorOf source) (e : ℕ) (f : e ≡ at + indexOf sep (drop at x)) where
   place-in-text : e ≡ at + indexOf (separatorOf source) (drop at (take (stop - 1) t))
   place-in-text = rw (b, n) at f
@@ -35,15 +35,9 @@ module _ (source : Source) (t : Bytes) (stop at : ℕ) (tally : Tally) (p : Plac
   pub part-before : e < stop
   part-before = next-part (separatorOf source) t stop (omega arith) (p .within) at e h place-in-text .2
 
-  pub part-read : (y : Bytes) → y ≡ take (e - at) (drop at t) → (c : Content) → (fieldOf y c ≡ classifyPart source y) × Within y c
-      → Reads source t stop at tally (record {
-        content = c;
-        start = at;
-        size = e - at;
-        at = e + 1;
-        stop = stop;
-        tally = record { lines = tally .lines; fields = tally .fields + 1 };
-      })
+  pub part-read : (y : Bytes) → y ≡ take (e - at) (drop at t) → (c : Content) → (meaningOf y c ≡ classifyPart source y) × PlacesIn y c
+      → Reads source t stop at tally (record { content = c; start = at; size = e - at; next = e + 1; stop = stop })
+      (record { lines = tally .lines; fields = tally .fields + 1 })
   part-read y v c s =
       let w = rw v at s in
       record {
@@ -51,7 +45,7 @@ module _ (source : Source) (t : Bytes) (stop at : ℕ) (tally : Tally) (p : Plac
         part = omega (arith, part-before, p .within);
         places = w .1;
         onward = omega arith;
-        place = record {
+        position = record {
           before = omega (arith, part-before);
           within = p .within;
           lines = omega (arith, p .lines);
@@ -67,7 +61,7 @@ module _ (source : Source) (t : Bytes) (stop at : ℕ) (tally : Tally) (p : Plac
 
 -- the line l begins at `at` and ends at e, and its first field is k bytes long
 pub record Line (t : Bytes) (at : ℕ) (tally : Tally) (e : ℕ) (l : Bytes) (k : ℕ) : Type 0 where
-  pub place : Place Header t at at tally
+  pub position : Position Header t at at tally
   pub more : at < length t
   pub end : e ≡ at + indexOf 10 (drop at t)
   pub whole : l ≡ between t at e
@@ -84,54 +78,54 @@ module _ {t : Bytes} {at : ℕ} {tally : Tally} {e : ℕ} {l : Bytes} {k : ℕ} 
   ends = part-within 10 t at e (omega (arith, line .more)) (line .end)
 
   -- a step to the next line, whatever it quotes
-  line-step : (c : Content) (start size : ℕ) → start + size ≤ length t → Within (take size (drop start t)) c
+  line-step : (c : Content) (start size : ℕ) → start + size ≤ length t → PlacesIn (take size (drop start t)) c
       → ((g : GraphName) → restOf Header t (tally .lines) at at g
-      ≡ afterTaken (apply g (fieldOf (take size (drop start t)) c)) (restOf Header t (suc (tally .lines)) (e + 1) (e + 1)) (refuse (suc (tally .lines)) start size))
-      → Reads Header t at at tally (lineRead c start size (e + 1) counted)
+      ≡ afterTaken (apply g (meaningOf (take size (drop start t)) c)) (restOf Header t (suc (tally .lines)) (e + 1) (e + 1)) (refuse (suc (tally .lines)) start size))
+      → Reads Header t at at tally (lineField c start size (e + 1)) counted
   line-step c start size part places reading = record {
     reading = λ g. rw (add-one (tally .lines)) (reading g);
     part = part;
     places = places;
     onward = omega (arith, ends);
-    place = record {
+    position = record {
       before = omega arith;
       within = omega (arith, ends);
-      lines = omega (arith, ends, line .place .lines);
-      fields = omega (arith, ends, line .place .fields);
+      lines = omega (arith, ends, line .position .lines);
+      fields = omega (arith, ends, line .position .fields);
       tag = tt;
     };
     counted = refl;
   }
 
-  pub short-read : length l ≤ k → Reads Header t at at tally (lineRead (Fault 1) 0 0 (e + 1) counted)
+  pub short-read : length l ≤ k → Reads Header t at at tally (lineField (Fault 1) 0 0 (e + 1)) counted
   short-read s = line-step (Fault 1) 0 0 (omega arith) tt (λ g. rest-short t (tally .lines) at e g (line .more) (line .end) k head-at (rw (line .whole) at s))
 
   module _ (m : k < length l) where
     head-within : (at + k < e) × (at + k ≤ length t)
     head-within = omega (arith, m, ap length (line .whole), part-length 10 t at e (omega (arith, line .more)) (line .end), ends)
 
-    pub second-place : Place Header t (e + 1) (at + k + 1) (record { lines = tally .lines + 1; fields = tally .fields }) × (at + k + 1 < e + 1)
-    second-place =
+    pub second-position : Position Header t (e + 1) (at + k + 1) (record { lines = tally .lines + 1; fields = tally .fields }) × (at + k + 1 < e + 1)
+    second-position =
         let w = head-within in (
           record {
             before = omega (arith, w);
             within = omega (arith, ends);
-            lines = omega (arith, line .place .lines);
-            fields = omega (arith, line .place .fields);
+            lines = omega (arith, line .position .lines);
+            fields = omega (arith, line .position .fields);
             tag = tt;
           },
           omega (arith, w),
         )
 
     -- an `H` line's first step is that of its second field
-    pub fields-read : sameBytes (take k l) (text "H") ≡ true → (r : FieldRead)
-        → Reads Header t (e + 1) (at + k + 1) (record { lines = tally .lines + 1; fields = tally .fields }) r → Reads Header t at at tally r
-    fields-read s r n = record {
+    pub fields-read : sameBytes (take k l) (text "H") ≡ true → (f : Field) (after : Tally)
+        → Reads Header t (e + 1) (at + k + 1) (record { lines = tally .lines + 1; fields = tally .fields }) f after → Reads Header t at at tally f after
+    fields-read s f after n = record {
       reading = λ g. rest-fields t (tally .lines) at e g (line .more) (line .end) k head-at (rw (line .whole) at m) (rw (line .whole) at s) ∙ rw (add-one (tally .lines)) at (n .reading g);
       part = n .part;
       places = n .places;
       onward = omega (arith, n .onward);
-      place = n .place;
+      position = n .position;
       counted = n .counted;
     }
 
@@ -139,23 +133,23 @@ module _ {t : Bytes} {at : ℕ} {tally : Tally} {e : ℕ} {l : Bytes} {k : ℕ} 
     gaf-size u = sym (length-take-le k l (omega arith)) ∙ eqb-true _ 3 (both-true (eqb (length (take k l)) 3) _ u .0)
 
     module _ (s : sameBytes (take k l) (text "H") ≡ false) where
-      pub gaf-read : isGafHead (take k l) ≡ true → (c : Content) → (fieldOf l c ≡ classifyGaf (take 3 l) (split 9 (drop 4 l))) × Within l c
-          → Reads Header t at at tally (lineRead c at (e - at) (e + 1) counted)
+      pub gaf-read : isGafHead (take k l) ≡ true → (c : Content) → (meaningOf l c ≡ classifyGaf (take 2 (drop 1 l)) (split 9 (drop 4 l))) × PlacesIn l c
+          → Reads Header t at at tally (lineField c at (e - at) (e + 1)) counted
       gaf-read u c v =
           let w = rw (line .whole) at v in
           let n : k ≡ 3 = gaf-size u in
           let q : k + 1 ≡ 4 = omega arith in
           line-step c at (e - at) (omega (arith, ends)) (w .1)
           (λ g. rest-gaf t (tally .lines) at e g (line .more) (line .end) k head-at (rw (line .whole) at m) (rw (line .whole) at s) (rw (line .whole) at u)
-          ∙ rw (gaf-classified g (take k (between t at e)) (split 9 (drop (k + 1) (between t at e))), w .0, q, n))
+          ∙ rw (gaf-classified g (take k (between t at e)) (split 9 (drop (k + 1) (between t at e))) (rw (line .whole) at u), w .0, q, n, drop-take 1 3 (between t at e)))
 
-      pub strange-read : isGafHead (take k l) ≡ false → Reads Header t at at tally (lineRead (Fault 2) at k (e + 1) counted)
-      strange-read u = line-step (Fault 2) at k (head-within .1) tt (λ g. rest-strange t (tally .lines) at e g (line .more) (line .end) k head-at (rw (line .whole) at m) (rw (line .whole) at s) (rw (line .whole) at u))
+      pub unknown-read : isGafHead (take k l) ≡ false → Reads Header t at at tally (lineField (Fault 2) at k (e + 1)) counted
+      unknown-read u = line-step (Fault 2) at k (head-within .1) tt (λ g. rest-unknown t (tally .lines) at e g (line .more) (line .end) k head-at (rw (line .whole) at m) (rw (line .whole) at s) (rw (line .whole) at u))
 
 -- where what stops at `stop` is done with and the text is not, the next line of header lines begins
 module _ (t : Bytes) (stop at : ℕ) (tally : Tally) (h : stop ≤ at) (l : at < length t) where
-  pub line-place : (source : Source) → Place source t stop at tally → Place Header t at at tally
-  line-place source p = record {
+  pub line-position : (source : Source) → Position source t stop at tally → Position Header t at at tally
+  line-position source p = record {
     before = omega arith;
     within = omega arith;
     lines = p .lines;
@@ -163,6 +157,6 @@ module _ (t : Bytes) (stop at : ℕ) (tally : Tally) (h : stop ≤ at) (l : at <
     tag = tt;
   }
 
-  pub line-reads : (source : Source) → Place source t stop at tally → (r : FieldRead) → Reads Header t at at tally r → Reads source t stop at tally r
-  line-reads Header p r n = let e : at ≡ stop = omega (arith, p .before) in subst (λ (s : ℕ). Reads Header t s at tally r) e n
-  line-reads (Tag k) p r n = absurd (omega (arith, p .tag .0))
+  pub line-reads : (source : Source) → Position source t stop at tally → (f : Field) (after : Tally) → Reads Header t at at tally f after → Reads source t stop at tally f after
+  line-reads Header p f after n = let e : at ≡ stop = omega (arith, p .before) in subst (λ (s : ℕ). Reads Header t s at tally f after) e n
+  line-reads (Tag k) p f after n = absurd (omega (arith, p .tag .0))

@@ -1,4 +1,4 @@
--- What is left of a reading at a place of the text, and what one field more makes of it. Assumes nothing.
+-- What is left of a reading at a place of the text, and what one field more makes of it.
 use mathlib.Core.Path.{_≡_}
 use mathlib.Core.Bool.{cond}
 use mathlib.Core.List.{List, []}
@@ -9,13 +9,12 @@ use Rattle.model.specs.Bytes.{Bytes, split}
 use Rattle.model.specs.Record.{GraphName}
 use Rattle.model.specs.Reading.{Reading, afterTaken, afterReading, refuse, typedFields, linesFrom, addTo, tagRelations, withoutLastEmpty}
 use Rattle.fields.specs.Fields.{apply, tagNumber}
-use Rattle.fields.specs.Contents.{fieldOf, Within}
+use Rattle.fields.specs.Contents.{meaningOf, PlacesIn}
 use Rattle.fields.specs.declared.field.Source.{Source}
 use Rattle.fields.specs.declared.field.Source.the-variants.{Header, Tag}
 use Rattle.fields.specs.declared.field.Content.{Content}
 use Rattle.fields.specs.declared.step.Tally.{Tally}
 use Rattle.fields.specs.declared.step.Field.{Field}
-use Rattle.fields.specs.declared.step.FieldRead.{FieldRead}
 
 -- the lines from a place on
 abbrev pub linesAt : Bytes → ℕ → List Bytes
@@ -36,8 +35,8 @@ abbrev pub OneLine : Source → Bytes → ℕ → Tally → Type 0
 OneLine Header t stop tally = Unit {0}
 OneLine (Tag k) t stop tally = (stop ≡ length t + 1) × (tally .lines ≡ 0)
 
--- a place of the text in a reading: no further than the end, and with no more lines and fields counted than bytes passed
-pub record Place (source : Source) (t : Bytes) (stop at : ℕ) (tally : Tally) : Type 0 where
+-- a reading has come to `at`, of what stops at `stop`: no further than the end, and with no more lines and fields counted than bytes passed
+pub record Position (source : Source) (t : Bytes) (stop at : ℕ) (tally : Tally) : Type 0 where
   pub before : at ≤ stop
   pub within : stop ≤ length t + 1
   pub lines : tally .lines ≤ at
@@ -45,37 +44,23 @@ pub record Place (source : Source) (t : Bytes) (stop at : ℕ) (tally : Tally) :
   pub tag : OneLine source t stop tally
 
 -- the part of the text that a field's places are counted in
-abbrev pub partOf : Bytes → FieldRead → Bytes
-partOf t r = take (r .size) (drop (r .start) t)
+abbrev pub partOf : Bytes → Field → Bytes
+partOf t f = take (f .size) (drop (f .start) t)
 
 -- a field that is a whole line, or its first fault: the next one begins with the next line
-abbrev pub lineRead : Content → ℕ → ℕ → ℕ → Tally → FieldRead
-lineRead content start size stop tally = record {
-  content = content;
-  start = start;
-  size = size;
-  at = stop;
-  stop = stop;
-  tally = tally;
-}
+abbrev pub lineField : Content → ℕ → ℕ → ℕ → Field
+lineField content start size stop = record { content = content; start = start; size = size; next = stop; stop = stop }
 
--- a field with the tally that counts it
-abbrev pub counted : Field → Tally → FieldRead
-counted f tally = record {
-  content = f .content;
-  start = f .start;
-  size = f .size;
-  at = f .at;
-  stop = f .stop;
-  tally = tally;
-}
+-- a field refused with a number, where the tally counts it
+abbrev pub refuseField : Field → Tally → ℕ → Reading
+refuseField f tally = refuse (tally .lines) (f .start) (f .size)
 
--- r is the next field: what is left with it is what the field does, and then what is left behind it
-pub record Reads (source : Source) (t : Bytes) (stop at : ℕ) (tally : Tally) (r : FieldRead) : Type 0 where
+-- f is the next field, and `after` the tally with it: what is left with f is what f does, and then what is left behind it
+pub record Reads (source : Source) (t : Bytes) (stop at : ℕ) (tally : Tally) (f : Field) (after : Tally) : Type 0 where
   pub reading : (g : GraphName) → restOf source t (tally .lines) stop at g
-      ≡ afterTaken (apply g (fieldOf (partOf t r) (r .content))) (restOf source t (r .tally .lines) (r .stop) (r .at)) (refuse (r .tally .lines) (r .start) (r .size))
-  pub part : r .start + r .size ≤ length t
-  pub places : Within (partOf t r) (r .content)
-  pub onward : at < r .at
-  pub place : Place source t (r .stop) (r .at) (r .tally)
-  pub counted : r .tally .fields ≡ tally .fields + 1
+      ≡ afterTaken (apply g (meaningOf (partOf t f) (f .content))) (restOf source t (after .lines) (f .stop) (f .next)) (refuseField f after)
+  pub part : f .start + f .size ≤ length t
+  pub places : PlacesIn (partOf t f) (f .content)
+  pub onward : at < f .next
+  pub position : Position source t (f .stop) (f .next) after
+  pub counted : after .fields ≡ tally .fields + 1

@@ -8,7 +8,7 @@ ghost use mathlib.Core.Path.{_≡_};
 ghost use Prim.Native.Nat.{_≤_, _<_};
 ghost use lib.ListN.{length};
 ghost use Rattle.model.specs.Reading.{isGafHead};
-ghost use Rattle.fields.specs.Rest.{Place, lineRead, counted, Reads};
+ghost use Rattle.fields.specs.Rest.{Position, lineField, Reads};
 
 // How many lines and fields have been begun.
 pub struct Tally {
@@ -16,40 +16,41 @@ pub struct Tally {
     pub fields: usize,
 }
 
-// A field that was read: what it says; the part of the text in which its places are counted and which a refusal quotes; where the next one
-// begins, and where its line stops (one past the line's end); and the tally with it.
-pub struct FieldRead {
-    pub content: Content,
-    pub start: usize,
-    pub size: usize,
-    pub at: usize,
-    pub stop: usize,
-    pub tally: Tally,
-}
-
-// The same without the tally.
+// A field: what it says; the part of the text in which its places are counted and which a refusal quotes; where the next one begins, and
+// where its line stops (one past the line's end).
 pub struct Field {
     pub content: Content,
     pub start: usize,
     pub size: usize,
-    pub at: usize,
+    pub next: usize,
     pub stop: usize,
+}
+
+// A field that was read, and the tally with it.
+pub struct FieldRead {
+    pub field: Field,
+    pub tally: Tally,
 }
 
 // The next field of an `H` line, or the next relation of a tag, that stops at `stop`.
 fn next_part(source: Source, t: &[u8], stop: usize, at: usize, tally: Tally) -> FieldRead
-    requires { ⌜ Place source (now t) stop at tally × (at < stop) ⌝ }
-    ensures { λ r. ⌜ Reads source (now (t .entry)) stop at tally r ⌝ }
+    requires { ⌜ Position source (now t) stop at tally × (at < stop) ⌝ }
+    ensures { λ r. ⌜ Reads source (now (t .entry)) stop at tally (r .field) (r .tally) ⌝ }
 {
     let end = text::find_byte(text::part(t, 0, stop - 1), at, separator(source));
     let lines = tally.lines;
     let fields = tally.fields + 1;
-    FieldRead {
-        content: part_content(source, text::part(t, at, end - at)),
+    let size = end - at;
+    let next = end + 1;
+    let field = Field {
+        content: part_content(source, text::part(t, at, size)),
         start: at,
-        size: end - at,
-        at: end + 1,
+        size,
+        next,
         stop,
+    };
+    FieldRead {
+        field,
         tally: Tally { lines, fields },
     }
 }
@@ -63,55 +64,55 @@ fn is_gaf_head(head: &[u8]) -> bool
 
 // A field that is a whole line, or a line's first fault.
 fn line_read(content: Content, start: usize, size: usize, stop: usize, tally: Tally) -> FieldRead
-    ensures { λ r. ⌜ r ≡ lineRead content start size stop tally ⌝ }
+    ensures { λ r. ⌜ r ≡ record { field = lineField content start size stop; tally = tally } ⌝ }
 {
-    FieldRead {
+    let field = Field {
         content,
         start,
         size,
-        at: stop,
+        next: stop,
         stop,
-        tally,
-    }
+    };
+    FieldRead { field, tally }
 }
 
 // The line that begins at `at`: its second field if it is an `H` line, else all of it.
 fn next_line(t: &[u8], at: usize, tally: Tally) -> FieldRead
-    requires { ⌜ Place Source.Header (now t) at at tally × (at < length (now t)) ⌝ }
-    ensures { λ r. ⌜ Reads Source.Header (now (t .entry)) at at tally r ⌝ }
+    requires { ⌜ Position Source.Header (now t) at at tally × (at < length (now t)) ⌝ }
+    ensures { λ r. ⌜ Reads Source.Header (now (t .entry)) at at tally (r .field) (r .tally) ⌝ }
 {
     let end = text::find_byte(t, at, b'\n');
     let line = text::part(t, at, end - at);
-    let size = text::find_byte(line, 0, b'\t');
+    let head_size = text::find_byte(line, 0, b'\t');
     let lines = tally.lines + 1;
     let fields = tally.fields;
     let counted = Tally {
         lines,
         fields: fields + 1,
     };
-    if line.len() <= size {
+    if line.len() <= head_size {
         return line_read(Content::Fault(1), 0, 0, end + 1, counted);
     }
-    let head = text::part(line, 0, size);
+    let head = text::part(line, 0, head_size);
     if text::same(head, b"H") {
         return next_part(
             Source::Header,
             t,
             end + 1,
-            at + size + 1,
+            at + head_size + 1,
             Tally { lines, fields },
         );
     }
     if is_gaf_head(head) {
         return line_read(gaf_line(line), at, end - at, end + 1, counted);
     }
-    line_read(Content::Fault(2), at, size, end + 1, counted)
+    line_read(Content::Fault(2), at, head_size, end + 1, counted)
 }
 
 // The next field from `at` on, of what stops at `stop` or, where that is done with, of the next line.
 fn next_field(source: Source, t: &[u8], stop: usize, at: usize, tally: Tally) -> FieldRead
-    requires { ⌜ Place source (now t) stop at tally × (stop ≤ at → at < length (now t)) ⌝ }
-    ensures { λ r. ⌜ Reads source (now (t .entry)) stop at tally r ⌝ }
+    requires { ⌜ Position source (now t) stop at tally × (stop ≤ at → at < length (now t)) ⌝ }
+    ensures { λ r. ⌜ Reads source (now (t .entry)) stop at tally (r .field) (r .tally) ⌝ }
 {
     if at < stop {
         return next_part(source, t, stop, at, tally);
@@ -121,33 +122,20 @@ fn next_field(source: Source, t: &[u8], stop: usize, at: usize, tally: Tally) ->
 
 // The next field, as by `next_field`: the tally is lent, and moved on here.
 pub fn read_field(source: Source, t: &[u8], stop: usize, at: usize, tally: &mut Tally) -> Field
-    requires { ⌜ Place source (now t) stop at (now tally) × (stop ≤ at → at < length (now t)) ⌝ }
-    ensures { λ r. ⌜ Reads source (now (t .entry)) stop at (now (tally .entry)) (counted r (now (tally .exit))) ⌝ }
+    requires { ⌜ Position source (now t) stop at (now tally) × (stop ≤ at → at < length (now t)) ⌝ }
+    ensures { λ r. ⌜ Reads source (now (t .entry)) stop at (now (tally .entry)) r (now (tally .exit)) ⌝ }
 {
     let read = next_field(source, t, stop, at, *tally);
     *tally = read.tally;
-    Field {
-        content: read.content,
-        start: read.start,
-        size: read.size,
-        at: read.at,
-        stop: read.stop,
-    }
+    read.field
 }
 
 // The next field with its tally, for every other caller, which has what was begun by value: here it is lent.
 pub fn next(source: Source, t: &[u8], stop: usize, at: usize, begun: Tally) -> FieldRead
-    requires { ⌜ Place source (now t) stop at begun × (stop ≤ at → at < length (now t)) ⌝ }
-    ensures { λ r. ⌜ Reads source (now (t .entry)) stop at begun r ⌝ }
+    requires { ⌜ Position source (now t) stop at begun × (stop ≤ at → at < length (now t)) ⌝ }
+    ensures { λ r. ⌜ Reads source (now (t .entry)) stop at begun (r .field) (r .tally) ⌝ }
 {
     let mut tally = begun;
     let field = read_field(source, t, stop, at, &mut tally);
-    FieldRead {
-        content: field.content,
-        start: field.start,
-        size: field.size,
-        at: field.at,
-        stop: field.stop,
-        tally,
-    }
+    FieldRead { field, tally }
 }

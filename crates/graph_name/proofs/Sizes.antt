@@ -4,7 +4,8 @@ use mathlib.Core.Option.{Option, some, none}
 use Prim.Native.Nat.{ℕ}
 use lib.ListN.{length}
 use Rattle.model.specs.Bytes.{Bytes}
-use Rattle.model.specs.Questions.{Given, refuses, gives, numberOf, valueOr, mapped}
+use Rattle.model.specs.Questions.{mapped}
+use Rattle.model.specs.Opening.{Given, refuses, gives, numberOf, valueOr}
 use Rattle.model.specs.Written.{sizeWritten, Tags, TagSizes, tagSizes}
 use Rattle.export.specs.Answers.{Answers, sizeGiven}
 use Rattle.model.specs.Values.{isPresent, orZero, lengthOf}

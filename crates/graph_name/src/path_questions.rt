@@ -7,29 +7,29 @@ ghost use Rattle.model.specs.Outcome.{askSubgraph, askFull, outputAfter, answer
 // Whether the first graph is a subgraph of the second; on a yes the path's bytes go to the front of the output.
 #[no_mangle]
 pub extern "C" fn graph_name_is_subgraph_of<'a>(
-    buf: &'a [u8],
+    buffer: &'a [u8],
     other: &'a [u8],
     out: &mut [u8],
     answer: &mut u64,
 ) -> u32
-    ensures { λ r. ⌜ r ≡ answerNumber (askSubgraph (now (buf .entry)) (now (other .entry)) (length (now (out .entry)))) ⌝ }
-    ensures { λ _. ⌜ now (out .exit) ≡ outputAfter (askSubgraph (now (buf .entry)) (now (other .entry)) (length (now (out .entry)))) (now (out .entry)) ⌝ }
-    ensures { λ _. ⌜ now (answer .exit) ≡ answerValue (now (answer .entry)) (askSubgraph (now (buf .entry)) (now (other .entry)) (length (now (out .entry)))) ⌝ }
+    ensures { λ r. ⌜ r ≡ answerNumber (askSubgraph (now (buffer .entry)) (now (other .entry)) (length (now (out .entry)))) ⌝ }
+    ensures { λ _. ⌜ now (out .exit) ≡ outputAfter (askSubgraph (now (buffer .entry)) (now (other .entry)) (length (now (out .entry)))) (now (out .entry)) ⌝ }
+    ensures { λ _. ⌜ now (answer .exit) ≡ answerValue (now (answer .entry)) (askSubgraph (now (buffer .entry)) (now (other .entry)) (length (now (out .entry)))) ⌝ }
 {
-    reply_out(questions::is_subgraph_of(buf, other, out), answer)
+    reply_out(questions::is_subgraph_of(buffer, other, out), answer)
 }
 
 // Whether coordinates of the first graph translate to the second; on a yes the path's bytes go to the front of the output.
 #[no_mangle]
 pub extern "C" fn graph_name_translates_to<'a>(
-    buf: &'a [u8],
+    buffer: &'a [u8],
     other: &'a [u8],
     out: &mut [u8],
     answer: &mut u64,
 ) -> u32
-    ensures { λ r. ⌜ r ≡ answerNumber (askFull (now (buf .entry)) (now (other .entry)) (length (now (out .entry)))) ⌝ }
-    ensures { λ _. ⌜ now (out .exit) ≡ outputAfter (askFull (now (buf .entry)) (now (other .entry)) (length (now (out .entry)))) (now (out .entry)) ⌝ }
-    ensures { λ _. ⌜ now (answer .exit) ≡ answerValue (now (answer .entry)) (askFull (now (buf .entry)) (now (other .entry)) (length (now (out .entry)))) ⌝ }
+    ensures { λ r. ⌜ r ≡ answerNumber (askFull (now (buffer .entry)) (now (other .entry)) (length (now (out .entry)))) ⌝ }
+    ensures { λ _. ⌜ now (out .exit) ≡ outputAfter (askFull (now (buffer .entry)) (now (other .entry)) (length (now (out .entry)))) (now (out .entry)) ⌝ }
+    ensures { λ _. ⌜ now (answer .exit) ≡ answerValue (now (answer .entry)) (askFull (now (buffer .entry)) (now (other .entry)) (length (now (out .entry)))) ⌝ }
 {
-    reply_out(questions::translates_to(buf, other, out), answer)
+    reply_out(questions::translates_to(buffer, other, out), answer)
 }

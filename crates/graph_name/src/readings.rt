@@ -9,18 +9,18 @@ ghost use Rattle.model.specs.Values.{flagged};
 #[no_mangle]
 pub extern "C" fn graph_name_from_header_lines(
     text: &[u8],
-    buf: &mut [u8],
+    buffer: &mut [u8],
     line: &mut u64,
     start: &mut u64,
     length: &mut u64,
 ) -> u32
-    ensures { λ r. ⌜ r ≡ refusalInto (fromHeaderLines (now (text .entry))) (now (buf .entry)) .number ⌝ }
-    ensures { λ _. ⌜ now (buf .exit) ≡ readInto (now (text .entry)) (now (buf .entry)) .buffer ⌝ }
-    ensures { λ _. ⌜ now (line .exit) ≡ refusalInto (fromHeaderLines (now (text .entry))) (now (buf .entry)) .line ⌝ }
-    ensures { λ _. ⌜ now (start .exit) ≡ refusalInto (fromHeaderLines (now (text .entry))) (now (buf .entry)) .start ⌝ }
-    ensures { λ _. ⌜ now (length .exit) ≡ refusalInto (fromHeaderLines (now (text .entry))) (now (buf .entry)) .size ⌝ }
+    ensures { λ r. ⌜ r ≡ refusalInto (fromHeaderLines (now (text .entry))) (now (buffer .entry)) .number ⌝ }
+    ensures { λ _. ⌜ now (buffer .exit) ≡ readInto (now (text .entry)) (now (buffer .entry)) .buffer ⌝ }
+    ensures { λ _. ⌜ now (line .exit) ≡ refusalInto (fromHeaderLines (now (text .entry))) (now (buffer .entry)) .line ⌝ }
+    ensures { λ _. ⌜ now (start .exit) ≡ refusalInto (fromHeaderLines (now (text .entry))) (now (buffer .entry)) .start ⌝ }
+    ensures { λ _. ⌜ now (length .exit) ≡ refusalInto (fromHeaderLines (now (text .entry))) (now (buffer .entry)) .size ⌝ }
 {
-    refusal_out(parse::from_header_lines(text, buf), line, start, length)
+    refusal_out(parse::from_header_lines(text, buffer), line, start, length)
 }
 
 // Reads the values of the three tags, each there if its flag is not 0. Line, start and length are written likewise.
@@ -32,16 +32,16 @@ pub extern "C" fn graph_name_from_tags(
     subgraph: &[u8],
     has_translation: u32,
     translation: &[u8],
-    buf: &mut [u8],
+    buffer: &mut [u8],
     line: &mut u64,
     start: &mut u64,
     length: &mut u64,
 ) -> u32
-    ensures { λ r. ⌜ r ≡ refusalInto (fromTags (flagged «has_name» (now (name .entry))) (flagged «has_subgraph» (now (subgraph .entry))) (flagged «has_translation» (now (translation .entry)))) (now (buf .entry)) .number ⌝ }
-    ensures { λ _. ⌜ now (buf .exit) ≡ readTagsInto (flagged «has_name» (now (name .entry))) (flagged «has_subgraph» (now (subgraph .entry))) (flagged «has_translation» (now (translation .entry))) (now (buf .entry)) .buffer ⌝ }
-    ensures { λ _. ⌜ now (line .exit) ≡ refusalInto (fromTags (flagged «has_name» (now (name .entry))) (flagged «has_subgraph» (now (subgraph .entry))) (flagged «has_translation» (now (translation .entry)))) (now (buf .entry)) .line ⌝ }
-    ensures { λ _. ⌜ now (start .exit) ≡ refusalInto (fromTags (flagged «has_name» (now (name .entry))) (flagged «has_subgraph» (now (subgraph .entry))) (flagged «has_translation» (now (translation .entry)))) (now (buf .entry)) .start ⌝ }
-    ensures { λ _. ⌜ now (length .exit) ≡ refusalInto (fromTags (flagged «has_name» (now (name .entry))) (flagged «has_subgraph» (now (subgraph .entry))) (flagged «has_translation» (now (translation .entry)))) (now (buf .entry)) .size ⌝ }
+    ensures { λ r. ⌜ r ≡ refusalInto (fromTags (flagged «has_name» (now (name .entry))) (flagged «has_subgraph» (now (subgraph .entry))) (flagged «has_translation» (now (translation .entry)))) (now (buffer .entry)) .number ⌝ }
+    ensures { λ _. ⌜ now (buffer .exit) ≡ readTagsInto (flagged «has_name» (now (name .entry))) (flagged «has_subgraph» (now (subgraph .entry))) (flagged «has_translation» (now (translation .entry))) (now (buffer .entry)) .buffer ⌝ }
+    ensures { λ _. ⌜ now (line .exit) ≡ refusalInto (fromTags (flagged «has_name» (now (name .entry))) (flagged «has_subgraph» (now (subgraph .entry))) (flagged «has_translation» (now (translation .entry)))) (now (buffer .entry)) .line ⌝ }
+    ensures { λ _. ⌜ now (start .exit) ≡ refusalInto (fromTags (flagged «has_name» (now (name .entry))) (flagged «has_subgraph» (now (subgraph .entry))) (flagged «has_translation» (now (translation .entry)))) (now (buffer .entry)) .start ⌝ }
+    ensures { λ _. ⌜ now (length .exit) ≡ refusalInto (fromTags (flagged «has_name» (now (name .entry))) (flagged «has_subgraph» (now (subgraph .entry))) (flagged «has_translation» (now (translation .entry)))) (now (buffer .entry)) .size ⌝ }
 {
     refusal_out(
         parse::from_tags(
@@ -51,7 +51,7 @@ pub extern "C" fn graph_name_from_tags(
             subgraph,
             has_translation != 0,
             translation,
-            buf,
+            buffer,
         ),
         line,
         start,

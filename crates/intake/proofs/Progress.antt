@@ -18,7 +18,7 @@ use Rattle.model.specs.Record.{Pair, GraphName, insert, names, anyLong, bodies,
 use Rattle.model.specs.Statements.{Ascending}
 use Rattle.model.specs.Reading.{took, wrong, judged}
 use Rattle.text.proofs.Order.{bytes-order}
-use Rattle.text.proofs.Ascending.{insert-members, insert-ascending}
+use Rattle.text.proofs.Ascending.{insert-members}
 use Rattle.text.proofs.Put.{length-put}
 use Rattle.record.proofs.Sizes.{judge-sizes}
 use Rattle.tables.specs.declared.putting.Sizes.{Sizes}
@@ -26,17 +26,17 @@ use Rattle.tables.specs.Tables.{Tables, tables, namesIn, tableNames, graphIn, P
 use Rattle.tables.proofs.Search.{length-names}
 use Rattle.tables.specs.Judging.{owned, namesAnd, NamesKept, Good}
 use Rattle.tables.proofs.Pairs.{names-withPair}
-use Rattle.tables.proofs.Total.{total, total-count, total-bodies, total-part}
+use Rattle.text.proofs.Total.{total, total-count, total-bodies, ascending-once, total-part}
 use Rattle.tables.proofs.Judge.{good-put, names-owned, any-insert, length-shown, judge-tables}
 use Rattle.text.proofs.Tests.{either-true}
 use Rattle.fields.specs.declared.field.Content.{Content}
 use Rattle.fields.specs.declared.field.Content.the-variants.{Fault, Nothing, Name, Relation}
 use Rattle.fields.specs.Fields.{apply}
-use Rattle.fields.specs.Contents.{fieldOf}
+use Rattle.fields.specs.Contents.{meaningOf}
 use Rattle.intake.specs.declared.taking.State.{State}
 use Rattle.intake.specs.declared.taking.FieldTaken.{FieldTaken}
 use Rattle.intake.specs.declared.taking.FieldTaken.the-variants.{Took, Wrong}
-use Rattle.intake.specs.State.{ownOf, graphNow, judgeNames, judgedAs, nameTaken, Held, Ready, TakenAs}
+use Rattle.intake.specs.State.{ownOf, graphNow, faultWith, stateTaken, nameTaken, Held, FittingState, TakenAs}
 
 -- ------------------------------------------------------------------ what is judged
 
@@ -64,15 +64,15 @@ module _ (refs subs trans : List ℕ) (pool own : Bytes) (s : State) (h : Held (
   abbrev shown : GraphName
   shown = graphNow (tables refs subs trans pool (s .sizes)) own (s .own)
 
-  pub state-taken : (r : FieldTaken) → r ≡ judgedAs (judgeNames (ownOf own (s .own)) (namesIn pool (s .sizes .names) refs) (s .sizes)) s
+  pub state-taken : (r : FieldTaken) → r ≡ stateTaken (faultWith (ownOf own (s .own)) (namesIn pool (s .sizes .names) refs) (s .sizes)) s
       → (g : GraphName) → shown ≡ g → TakenAs (tables refs subs trans pool) own r (judged g)
   state-taken r e g d =
       let j = judge-tables (tables refs subs trans pool (s .sizes)) (ownOf own (s .own)) (h .good) in
       rw (e, ← d, ← j) (go (eqb (judge shown) 0) refl)
     where
       go : (b : Bool) → eqb (judge shown) 0 ≡ b → TakenAs (tables refs subs trans pool) own (cond b (Took s) (Wrong (judge shown))) (cond b (took shown) (wrong (judge shown)))
-      go true f = record { same = refl; ready = record { held = h; sizes = eqb-true (judge shown) 0 f } }
-      go false f = record { same = refl; ready = tt }
+      go true f = record { same = refl; fitting = record { held = h; sizes = eqb-true (judge shown) 0 f } }
+      go false f = record { same = refl; fitting = tt }
 
 -- ------------------------------------------------------------------ an own name
 
@@ -82,7 +82,7 @@ own-kept own x = rw (add-one (length x)) (ap some (take-append-seam x (drop (0 +
 
 -- copied into its buffer, the name is the own name
 pub name-taken : (ns : List Bytes) (sizes : Sizes) (own own′ x : Bytes) (size : ℕ) → size ≡ 0 + length x → own′ ≡ put own 0 x → length x ≤ 256
-    → judgedAs (judgeNames (ownOf own′ (size + 1)) ns sizes) (record { sizes = sizes; own = size + 1 }) ≡ nameTaken ns sizes x
+    → stateTaken (faultWith (ownOf own′ (size + 1)) ns sizes) (record { sizes = sizes; own = size + 1 }) ≡ nameTaken ns sizes x
 name-taken ns sizes own own′ x size e d h = let n : size ≡ length x = omega arith in rw (n, d, own-kept own x, le-ltb 256 (length x) h)
 
 judged-long : (g : GraphName) → anyLong (names g) ≡ true → judged g ≡ wrong 11
@@ -99,20 +99,20 @@ with-more (some x) ns a =
     (c, b)
   where
     more : (f : Bytes → ℕ) → total f ns ≤ total f (insert compareBytes x ns)
-    more f = total-part bytes-order f ns (insert compareBytes x ns) a (insert-ascending bytes-order x ns a) (λ y m. insert-members bytes-order x ns y .1 (inr m))
+    more f = total-part f ns (insert compareBytes x ns) (ascending-once bytes-order ns a) (λ y m. insert-members bytes-order x ns y .1 (inr m))
 
 either-more : (s t u : Bool) → s || t ≡ true → s || (t || u) ≡ true
 either-more true t u e = refl
 either-more false true u e = refl
 either-more false false u e = cc
 
--- a pair and the own name do not meddle
-own-apart : (k : Kind) (p : Pair) (o : Option Bytes) (g : GraphName) → owned o (withPair k p g) ≡ withPair k p (owned o g)
-own-apart Subgraph p o g = refl
-own-apart Translation p o g = refl
+-- a pair and the own name are added in either order
+own-and-pair : (k : Kind) (p : Pair) (o : Option Bytes) (g : GraphName) → owned o (withPair k p g) ≡ withPair k p (owned o g)
+own-and-pair Subgraph p o g = refl
+own-and-pair Translation p o g = refl
 
 -- what stands before the field
-module _ (refs subs trans : List ℕ) (pool own : Bytes) (sizes : Sizes) (n : ℕ) (h : Ready (tables refs subs trans pool sizes) own n) where
+module _ (refs subs trans : List ℕ) (pool own : Bytes) (sizes : Sizes) (n : ℕ) (h : FittingState (tables refs subs trans pool sizes) own n) where
   abbrev before : GraphName
   before = graphNow (tables refs subs trans pool sizes) own n
 
@@ -123,7 +123,7 @@ module _ (refs subs trans : List ℕ) (pool own : Bytes) (sizes : Sizes) (n : �
       go : (b : Bool) → ltb 256 (length x) ≡ b → TakenAs (tables refs subs trans pool) own′ r (judged (withName x before))
       go true l =
           let m : anyLong (names (withName x before)) ≡ true = ap anyLong (names-owned (some x) before) ∙ any-insert x (names (owned none before)) ∙ rw l in
-          rw (e, l, judged-long (withName x before) m) (record { same = refl; ready = tt })
+          rw (e, l, judged-long (withName x before) m) (record { same = refl; fitting = tt })
       go false l =
           let s = ltb-false 256 (length x) l in
           let k : ownOf own′ (length x + 1) ≡ some x = rw (d s) (own-kept own x) in
@@ -178,7 +178,7 @@ module _ (refs subs trans : List ℕ) (pool own : Bytes) (sizes : Sizes) (n : �
     long-pair l at =
         let m : anyLong (names (withPair k pair before)) ≡ true =
         ap anyLong (names-withPair k pair before) ∙ any-insert to (insert compareBytes from (names before)) ∙ rw (any-insert from (names before)) (either-more (ltb 256 (length to)) (ltb 256 (length from)) (anyLong (names before)) l) in
-        rw (judged-long (withPair k pair before) m) (record { same = refl; ready = tt })
+        rw (judged-long (withPair k pair before) m) (record { same = refl; fitting = tt })
 
     pub long-from : (at : Sizes → Tables) → 256 < length from → TakenAs at own (Wrong 11) (judged (withPair k pair before))
     long-from at l = long-pair (either-true (ltb 256 (length to)) (ltb 256 (length from)) .1 (inr (lt-ltb 256 (length from) l))) at
@@ -193,7 +193,7 @@ module _ (refs subs trans : List ℕ) (pool own : Bytes) (sizes : Sizes) (n : �
       pair-kept = names-kept (tables refs′ subs′ trans′ pool′ sizes′) (good-put none k (tables refs subs trans pool sizes) (tables refs′ subs′ trans′ pool′ sizes′) from to (h .held .good) p)
 
       pub pair-progress : length refs′ ≡ length refs → length subs′ ≡ length subs → length trans′ ≡ length trans → length pool′ ≡ length pool
-          → (r : FieldTaken) → r ≡ judgedAs (judgeNames (ownOf own n) (namesIn pool′ (sizes′ .names) refs′) sizes′) (record { sizes = sizes′; own = n })
+          → (r : FieldTaken) → r ≡ stateTaken (faultWith (ownOf own n) (namesIn pool′ (sizes′ .names) refs′) sizes′) (record { sizes = sizes′; own = n })
           → TakenAs (tables refs′ subs′ trans′ pool′) own r (judged (withPair k pair before))
       pair-progress a b c d r e =
           state-taken refs′ subs′ trans′ pool′ own (record { sizes = sizes′; own = n })
@@ -208,7 +208,7 @@ module _ (refs subs trans : List ℕ) (pool own : Bytes) (sizes : Sizes) (n : �
               own = h .held .lengths .own;
             };
           })
-          r e (withPair k pair before) (ap (owned (ownOf own n)) (p .graph) ∙ own-apart k pair (ownOf own n) (graphIn (tables refs subs trans pool sizes)))
+          r e (withPair k pair before) (ap (owned (ownOf own n)) (p .graph) ∙ own-and-pair k pair (ownOf own n) (graphIn (tables refs subs trans pool sizes)))
 
 -- ------------------------------------------------------------------ what the field says
 
@@ -216,18 +216,18 @@ to-end : (f : Bytes) (i : ℕ) → take (length f) (drop i f) ≡ drop i f
 to-end f i = take-all (length f) (drop i f) (rw length-drop (omega arith))
 
 module _ (at : Sizes → Tables) (own : Bytes) (g : GraphName) (f : Bytes) (c : Content) where
-  pub fault-taken : (n : ℕ) → c ≡ Fault n → TakenAs at own (Wrong n) (apply g (fieldOf f c))
-  fault-taken n e = rw e (record { same = refl; ready = tt })
+  pub fault-taken : (n : ℕ) → c ≡ Fault n → TakenAs at own (Wrong n) (apply g (meaningOf f c))
+  fault-taken n e = rw e (record { same = refl; fitting = tt })
 
-  pub nothing-taken : (s : State) → c ≡ Nothing → Ready (at (s .sizes)) own (s .own) → graphNow (at (s .sizes)) own (s .own) ≡ g
-      → TakenAs at own (Took s) (apply g (fieldOf f c))
-  nothing-taken s e h d = rw e (record { same = ap took d; ready = h })
+  pub nothing-taken : (s : State) → c ≡ Nothing → FittingState (at (s .sizes)) own (s .own) → graphNow (at (s .sizes)) own (s .own) ≡ g
+      → TakenAs at own (Took s) (apply g (meaningOf f c))
+  nothing-taken s e h d = rw e (record { same = ap took d; fitting = h })
 
   module _ (r : FieldTaken) where
     pub name-said : (i : ℕ) → c ≡ Name i → (x : Bytes) → x ≡ take (length f) (drop i f) → TakenAs at own r (judged (withName x g))
-        → TakenAs at own r (apply g (fieldOf f c))
+        → TakenAs at own r (apply g (meaningOf f c))
     name-said i e x d t = rw e (rw (d, to-end f i) at t)
 
     pub pair-said : (k : Kind) (i m : ℕ) → c ≡ Relation k i m → (x y : Bytes) → x ≡ take (m - i) (drop i f) → y ≡ take (length f) (drop (m + 1) f)
-        → TakenAs at own r (judged (withPair k (record { from = x; to = y }) g)) → TakenAs at own r (apply g (fieldOf f c))
+        → TakenAs at own r (judged (withPair k (record { from = x; to = y }) g)) → TakenAs at own r (apply g (meaningOf f c))
     pair-said k i m e x y d b t = rw e (rw (d, b, to-end f (m + 1)) at t)

@@ -12,12 +12,12 @@ use Rattle.record.specs.Coded.{meaning}
 use Rattle.tables.specs.declared.putting.Sizes.{Sizes}
 use Rattle.tables.specs.Tables.{Tables, tables, tableNames, graphIn, readOut, NameRoom, NamePut, Storable}
 use Rattle.tables.specs.Judging.{owned}
-use Rattle.tables.proofs.Judge.{meaning-own, ready-own}
+use Rattle.tables.proofs.Judge.{meaning-own, complete-own}
 use Rattle.tables.proofs.Search.{length-names}
-use Rattle.intake.specs.State.{graphNow, Ready}
+use Rattle.intake.specs.State.{graphNow, FittingState}
 use Rattle.intake.proofs.Progress.{own-some, now-names, in-use}
 
-module _ (refs subs trans : List ℕ) (pool own : Bytes) (sizes : Sizes) (n : ℕ) (h : Ready (tables refs subs trans pool sizes) own n) where
+module _ (refs subs trans : List ℕ) (pool own : Bytes) (sizes : Sizes) (n : ℕ) (h : FittingState (tables refs subs trans pool sizes) own n) where
   abbrev t : Tables
   t = tables refs subs trans pool sizes
 
@@ -70,7 +70,7 @@ module _ (refs subs trans : List ℕ) (pool own : Bytes) (sizes : Sizes) (n : �
           let w = in-use refs subs trans pool own sizes n h in
           let s = judge-sizes (graphNow t own n) (h .sizes) in
           let c = length-names pool′ (sizes′ .names) refs′ (k .kept .count) in
-          let r = ready-own t u x p k (h .held .good) in
+          let r = complete-own t u x p k (h .held .good) in
           record {
             kept = r .kept;
             own-within = r .own-within;

@@ -1,1 +1,2 @@
+-- What a reading has so far.
 pub mod State

@@ -1,4 +1,4 @@
--- The state of a reading: the working tables with the own name so far, which is kept apart, and the graph name that they come to. Assumes nothing.
+-- The state of a reading: the working tables with the own name so far, which is kept apart, and the graph name that they come to.
 use mathlib.Core.Path.{_≡_}
 use mathlib.Core.Bool.{cond}
 use mathlib.Core.List.{List}
@@ -37,17 +37,17 @@ pub record Lengths (rs ss ts : List ℕ) (bytes name : Bytes) : Type 0 where
 abbrev pub nothingTaken : State
 nothingTaken = record { sizes = record { names = 0; bytes = 0; subgraph = 0; translation = 0 }; own = 0 }
 
--- the number that names with an own name, and as many pairs as the sizes say, come to
-abbrev pub judgeNames : Option Bytes → List Bytes → Sizes → ℕ
-judgeNames own ns sizes = sizeFault (namesAnd own ns) (sizes .subgraph) (sizes .translation)
+-- the number for the sizes of names with an own name and of as many pairs as the sizes say; 0 where they are allowed
+abbrev pub faultWith : Option Bytes → List Bytes → Sizes → ℕ
+faultWith own ns sizes = sizeFault (namesAnd own ns) (sizes .subgraph) (sizes .translation)
 
--- a state that is judged by a number
-abbrev pub judgedAs : ℕ → State → FieldTaken
-judgedAs number state = cond (eqb number 0) (Took state) (Wrong number)
+-- a state, if the number for its sizes is 0
+abbrev pub stateTaken : ℕ → State → FieldTaken
+stateTaken number state = cond (eqb number 0) (Took state) (Wrong number)
 
 -- an own name taken
 abbrev pub nameTaken : List Bytes → Sizes → Bytes → FieldTaken
-nameTaken ns sizes x = cond (ltb 256 (length x)) (Wrong 11) (judgedAs (judgeNames (some x) ns sizes) (record { sizes = sizes; own = length x + 1 }))
+nameTaken ns sizes x = cond (ltb 256 (length x)) (Wrong 11) (stateTaken (faultWith (some x) ns sizes) (record { sizes = sizes; own = length x + 1 }))
 
 -- the tables are good, and the own name is within its buffer
 pub record Held (t : Tables) (own : Bytes) (n : ℕ) : Type 0 where
@@ -55,8 +55,8 @@ pub record Held (t : Tables) (own : Bytes) (n : ℕ) : Type 0 where
   pub short : n ≤ 257
   pub lengths : Lengths (t .refs) (t .subs) (t .trans) (t .pool) own
 
--- and the sizes are within those of docs/FORMAT.md: so it is between two fields
-pub record Ready (t : Tables) (own : Bytes) (n : ℕ) : Type 0 where
+-- and the sizes are within those of docs/FORMAT.md: so it is before and after each field
+pub record FittingState (t : Tables) (own : Bytes) (n : ℕ) : Type 0 where
   pub held : Held t own n
   pub sizes : judge (graphNow t own n) ≡ 0
 
@@ -65,11 +65,11 @@ abbrev pub takenOf : (Sizes → Tables) → Bytes → FieldTaken → Taken
 takenOf at own (Took s) = took (graphNow (at (s .sizes)) own (s .own))
 takenOf at own (Wrong n) = wrong n
 
-abbrev pub ReadyAfter : (Sizes → Tables) → Bytes → FieldTaken → Type 0
-ReadyAfter at own (Took s) = Ready (at (s .sizes)) own (s .own)
-ReadyAfter at own (Wrong n) = Unit {0}
+abbrev pub FittingAfter : (Sizes → Tables) → Bytes → FieldTaken → Type 0
+FittingAfter at own (Took s) = FittingState (at (s .sizes)) own (s .own)
+FittingAfter at own (Wrong n) = Unit {0}
 
 -- the field was taken as m, and the reading can go on if it does
 pub record TakenAs (at : Sizes → Tables) (own : Bytes) (r : FieldTaken) (m : Taken) : Type 0 where
   pub same : takenOf at own r ≡ m
-  pub ready : ReadyAfter at own r
+  pub fitting : FittingAfter at own r

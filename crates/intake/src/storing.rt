@@ -2,9 +2,9 @@
 use crate::taking::State;
 ghost use mathlib.Core.Path.{_≡_};
 ghost use lib.ListN.{length};
-ghost use Rattle.model.specs.Layout.{encode};
+ghost use Rattle.model.specs.Layout.{recordLength, encode};
 ghost use Rattle.tables.specs.Tables.{tables};
-ghost use Rattle.intake.specs.State.{graphNow, Ready};
+ghost use Rattle.intake.specs.State.{graphNow, FittingState};
 
 // Writes the record of what a reading has, with the own name put into the tables.
 pub fn store_state(
@@ -16,7 +16,7 @@ pub fn store_state(
     state: State,
     buffer: &mut [u8],
 )
-    requires { ⌜ Ready (tables (now refs) (now subs) (now trans) (now pool) (state .sizes)) (now own) (state .own) × (length (now buffer) ≡ 32768) ⌝ }
+    requires { ⌜ FittingState (tables (now refs) (now subs) (now trans) (now pool) (state .sizes)) (now own) (state .own) × (length (now buffer) ≡ recordLength) ⌝ }
     ensures { λ _. ⌜ now (buffer .exit) ≡ encode (graphNow (tables (now (refs .entry)) (now (subs .entry)) (now (trans .entry)) (now (pool .entry)) (state .sizes)) (now (own .entry)) (state .own)) ⌝ }
 {
     let n = state.own;

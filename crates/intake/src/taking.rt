@@ -11,8 +11,8 @@ ghost use Rattle.model.specs.Reading.{judged};
 ghost use Rattle.tables.specs.Judging.{NamesKept};
 ghost use Rattle.tables.specs.Tables.{tables, namesIn};
 ghost use Rattle.fields.specs.Fields.{apply};
-ghost use Rattle.fields.specs.Contents.{fieldOf, Within};
-ghost use Rattle.intake.specs.State.{nothingTaken, ownOf, graphNow, judgeNames, judgedAs, nameTaken, Ready, TakenAs};
+ghost use Rattle.fields.specs.Contents.{meaningOf, PlacesIn};
+ghost use Rattle.intake.specs.State.{nothingTaken, ownOf, graphNow, faultWith, stateTaken, nameTaken, FittingState, TakenAs};
 
 // What a reading has so far: how much of the tables is in use, and the own name's length and one more, or 0 for none.
 pub struct State {
@@ -67,23 +67,23 @@ pub fn begin() -> State
     }
 }
 
-// The number of the tables with the own name, which is counted once.
-fn judge(refs: &[u32], pool: &[u8], sizes: Sizes, own: &[u8], n: usize) -> u32
+// The number for the sizes of the tables with the own name, which is counted once; 0 where they are allowed.
+fn size_fault(refs: &[u32], pool: &[u8], sizes: Sizes, own: &[u8], n: usize) -> u32
     requires { ⌜ NamesKept (now refs) (now pool) sizes ⌝ }
-    ensures { λ r. ⌜ r ≡ judgeNames (ownOf (now (own .entry)) n) (namesIn (now (pool .entry)) (sizes .names) (now (refs .entry))) sizes ⌝ }
+    ensures { λ r. ⌜ r ≡ faultWith (ownOf (now (own .entry)) n) (namesIn (now (pool .entry)) (sizes .names) (now (refs .entry))) sizes ⌝ }
 {
     if n == 0 {
-        return tables::judged(refs, pool, sizes, false, own);
+        return tables::size_fault(refs, pool, sizes, false, own);
     }
-    tables::judged(refs, pool, sizes, true, text::part(own, 0, n - 1))
+    tables::size_fault(refs, pool, sizes, true, text::part(own, 0, n - 1))
 }
 
 // A state, if its sizes allow it.
-fn judged_state(refs: &[u32], pool: &[u8], own: &[u8], state: State) -> FieldTaken
+fn take_state(refs: &[u32], pool: &[u8], own: &[u8], state: State) -> FieldTaken
     requires { ⌜ NamesKept (now refs) (now pool) (state .sizes) ⌝ }
-    ensures { λ r. ⌜ r ≡ judgedAs (judgeNames (ownOf (now (own .entry)) (state .own)) (namesIn (now (pool .entry)) (state .sizes .names) (now (refs .entry))) (state .sizes)) state ⌝ }
+    ensures { λ r. ⌜ r ≡ stateTaken (faultWith (ownOf (now (own .entry)) (state .own)) (namesIn (now (pool .entry)) (state .sizes .names) (now (refs .entry))) (state .sizes)) state ⌝ }
 {
-    let number = judge(refs, pool, state.sizes, own, state.own);
+    let number = size_fault(refs, pool, state.sizes, own, state.own);
     if number == 0 {
         return FieldTaken::Took(state);
     }
@@ -99,7 +99,7 @@ fn take_name(refs: &[u32], pool: &[u8], own: &mut [u8], sizes: Sizes, name: &[u8
         return FieldTaken::Wrong(11);
     }
     let size = text::copy(own, 0, name);
-    judged_state(
+    take_state(
         refs,
         pool,
         own,
@@ -122,7 +122,7 @@ fn take_pair(
     from: &[u8],
     to: &[u8],
 ) -> FieldTaken
-    requires { ⌜ Ready (tables (now refs) (now subs) (now trans) (now pool) (state .sizes)) (now own) (state .own) ⌝ }
+    requires { ⌜ FittingState (tables (now refs) (now subs) (now trans) (now pool) (state .sizes)) (now own) (state .own) ⌝ }
     ensures { λ r. ⌜ TakenAs (tables (now (refs .exit)) (now (subs .exit)) (now (trans .exit)) (now (pool .exit))) (now (own .entry)) r (judged (withPair kind (record { from = now (from .entry); to = now (to .entry) }) (graphNow (tables (now (refs .entry)) (now (subs .entry)) (now (trans .entry)) (now (pool .entry)) (state .sizes)) (now (own .entry)) (state .own)))) ⌝ }
 {
     if 256 < from.len() {
@@ -133,7 +133,7 @@ fn take_pair(
     }
     let n = state.own;
     let sizes = tables::put_pair(kind, refs, subs, trans, pool, state.sizes, from, to);
-    judged_state(refs, pool, own, State { sizes, own: n })
+    take_state(refs, pool, own, State { sizes, own: n })
 }
 
 // A field with what it says, taken into the tables and the own name.
@@ -147,8 +147,8 @@ pub fn take_field(
     f: &[u8],
     content: Content,
 ) -> FieldTaken
-    requires { ⌜ Ready (tables (now refs) (now subs) (now trans) (now pool) (state .sizes)) (now own) (state .own) × Within (now f) content ⌝ }
-    ensures { λ r. ⌜ TakenAs (tables (now (refs .exit)) (now (subs .exit)) (now (trans .exit)) (now (pool .exit))) (now (own .exit)) r (apply (graphNow (tables (now (refs .entry)) (now (subs .entry)) (now (trans .entry)) (now (pool .entry)) (state .sizes)) (now (own .entry)) (state .own)) (fieldOf (now (f .entry)) content)) ⌝ }
+    requires { ⌜ FittingState (tables (now refs) (now subs) (now trans) (now pool) (state .sizes)) (now own) (state .own) × PlacesIn (now f) content ⌝ }
+    ensures { λ r. ⌜ TakenAs (tables (now (refs .exit)) (now (subs .exit)) (now (trans .exit)) (now (pool .exit))) (now (own .exit)) r (apply (graphNow (tables (now (refs .entry)) (now (subs .entry)) (now (trans .entry)) (now (pool .entry)) (state .sizes)) (now (own .entry)) (state .own)) (meaningOf (now (f .entry)) content)) ⌝ }
 {
     match content {
         Content::Fault(number) => FieldTaken::Wrong(number),

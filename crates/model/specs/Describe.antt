@@ -1,4 +1,4 @@
--- The description of how two graphs are related, as the Rust writes it. Assumes nothing.
+-- The description of how two graphs are related, as the Rust writes it.
 use mathlib.Core.Bool.{Bool, false, cond, _||_}
 use mathlib.Core.List.{List, [], _∷_, _++_}
 use mathlib.Core.Option.{Option, some, none}
@@ -13,21 +13,21 @@ use Rattle.model.specs.declared.Kind.the-variants.{Subgraph, Translation
 use Rattle.model.specs.Path.{Step, fullPath}
 
 -- a name, and the kind of the step that leaves it
-pub record Leg : Type 0 where
+pub record StepFrom : Type 0 where
   pub name : Bytes
   pub kind : Kind
 
 -- each name of a path but the last
-unfoldable pub legs : Bytes → List Step → List Leg
-legs a [] = []
-legs a (s ∷ ss) = record { name = a; kind = s .kind } ∷ legs (s .next) ss
+unfoldable pub stepsFrom : Bytes → List Step → List StepFrom
+stepsFrom a [] = []
+stepsFrom a (s ∷ ss) = record { name = a; kind = s .kind } ∷ stepsFrom (s .next) ss
 
-abbrev pub anyEmpty : List Leg → Bool
+abbrev pub anyEmpty : List StepFrom → Bool
 anyEmpty [] = false
 anyEmpty (l ∷ ls) = isEmpty (l .name) || anyEmpty ls
 
 -- what follows the last empty name; all where none is empty
-unfoldable pub afterLastEmpty : List Leg → List Leg
+unfoldable pub afterLastEmpty : List StepFrom → List StepFrom
 afterLastEmpty [] = []
 afterLastEmpty (l ∷ ls) = cond (anyEmpty ls) (afterLastEmpty ls) (cond (isEmpty (l .name)) ls (l ∷ ls))
 
@@ -38,7 +38,7 @@ abbrev pub relationWords : Kind → Bytes
 relationWords Subgraph = text " is a subgraph of graph "
 relationWords Translation = text " translates to graph "
 
-unfoldable pub stepLines : ℕ → List Leg → Bytes
+unfoldable pub stepLines : ℕ → List StepFrom → Bytes
 stepLines i [] = []
 stepLines i (l ∷ ls) = text "Graph " ++ decimal i ++ relationWords (l .kind) ++ decimal (i + 1) ++ text "\n" ++ stepLines (i + 1) ls
 
@@ -46,11 +46,11 @@ abbrev pub graphLine : ℕ → Bytes → Bytes
 graphLine i name = decimal i ++ text "\t" ++ name ++ text "\n"
 
 -- the listed names, numbered from i, and then the start of the path again
-unfoldable pub graphLines : ℕ → List Leg → Bytes → Bytes
+unfoldable pub graphLines : ℕ → List StepFrom → Bytes → Bytes
 graphLines i [] start = graphLine i start
 graphLines i (l ∷ ls) start = graphLine i (l .name) ++ graphLines (i + 1) ls start
 
-abbrev pub describePath : Bytes → List Leg → Bytes → Bytes → Bytes
+abbrev pub describePath : Bytes → List StepFrom → Bytes → Bytes → Bytes
 describePath start ls fromDesc toDesc =
     nameIsFor 1 fromDesc ++ stepLines 1 ls ++ nameIsFor (length ls + 1) toDesc ++ text "With graph names:\n" ++ graphLines 1 ls start
 
@@ -65,7 +65,7 @@ describeNone from to fromDesc toDesc =
 
 abbrev pub described : Option Bytes → Bytes → Bytes → Option (List Step) → Bytes → Bytes
 described a fromDesc toDesc none otherwise = otherwise
-described a fromDesc toDesc (some ss) otherwise = describePath (orNoName a) (afterLastEmpty (legs (orNoName a) ss)) fromDesc toDesc
+described a fromDesc toDesc (some ss) otherwise = describePath (orNoName a) (afterLastEmpty (stepsFrom (orNoName a) ss)) fromDesc toDesc
 
 unfoldable pub describeRelationship : GraphName → GraphName → Bytes → Bytes → Bytes
 describeRelationship g h selfDesc otherDesc =

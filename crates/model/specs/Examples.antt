@@ -1,5 +1,5 @@
 -- The examples of docs/FORMAT.md marked T, as one list, with a few of layouts, strict lines and descriptions beside them, and the theorem
--- that all of the list holds of the definitions. Assumes nothing.
+-- that all of the list holds of the definitions.
 use mathlib.Core.Path.{_≡_, refl}
 use mathlib.Core.List.{List, [], _∷_, _++_}
 use mathlib.Core.Option.{Option, some, none}
@@ -13,13 +13,14 @@ use Rattle.model.specs.Text.{text}
 use Rattle.model.specs.Bytes.{Bytes, compareNumbers, compareBytes, sameBytes, split}
 use Rattle.model.specs.Numbers.{decimal, digits, le16s}
 use Rattle.model.specs.Record.{Pair, GraphName, empty, comparePairs, insert, insertAll, ascends, names, judge, isValid}
-use Rattle.model.specs.Layout.{placeOf, entries, pairPlaces, contents, encode, nameAt, pairsFrom, shown, decode}
+use Rattle.model.specs.Layout.{recordLength, placeOf, entries, pairPlaces, contents, encode, nameAt, pairsFrom, shown, decode}
 use Rattle.model.specs.Writing.{relationsTag, moreRelations}
 use Rattle.model.specs.Reading.{Reading, done, refused, typedField, gafLine, typedFields, lineFields, linesFrom, withoutLastEmpty, fromHeaderLines, tagRelations, tagValue, nameValue, fromTags}
 use Rattle.model.specs.Path.{Step, leavingBy, leaving, firstOf, firstPath, pathFrom, bestPath, subgraphPath, fullPath, pathBytes, pathEntries, pathBodies}
+use Rattle.model.specs.Opening.{opened}
 use Rattle.model.specs.Outcome.{Answer, refusal, found, askSubgraph}
 use Rattle.model.specs.Strict.{strict, strictFields, fineField, matches, after, nullable, valueOf}
-use Rattle.model.specs.Describe.{describeRelationship, legs, afterLastEmpty, stepLines, graphLines}
+use Rattle.model.specs.Describe.{describeRelationship, stepsFrom, afterLastEmpty, stepLines, graphLines}
 
 abbrev p : String → String → Pair
 p a b = record { from = text a; to = text b }
@@ -42,7 +43,7 @@ fault n l s k = refused (record { number = n; line = l; start = s; size = k })
 
 -- a buffer of numbers, then text, then zeros
 abbrev buffer : List ℕ → String → Bytes
-buffer ns t = le16s ns ++ (text t ++ replicate (32768 - length (le16s ns ++ text t)) 0)
+buffer ns t = le16s ns ++ (text t ++ replicate (recordLength - length (le16s ns ++ text t)) 0)
 
 -- an input, and what the definitions should give for it
 pub data Example : Type 0 where
@@ -117,6 +118,6 @@ examples =
     ∷ []
 
 pub examples-hold : All examples
-unfolding fromHeaderLines linesFrom withoutLastEmpty lineFields typedFields typedField gafLine split sameBytes compareBytes compareNumbers judge names insertAll insert comparePairs fromTags nameValue tagValue tagRelations relationsTag moreRelations subgraphPath fullPath bestPath pathFrom firstPath firstOf leaving leavingBy describeRelationship decimal digits legs afterLastEmpty stepLines graphLines strict strictFields fineField matches after nullable valueOf le16s askSubgraph pathBytes pathEntries pathBodies decode isValid ascends shown pairsFrom nameAt encode contents entries pairPlaces placeOf
+unfolding opened fromHeaderLines linesFrom withoutLastEmpty lineFields typedFields typedField gafLine split sameBytes compareBytes compareNumbers judge names insertAll insert comparePairs fromTags nameValue tagValue tagRelations relationsTag moreRelations subgraphPath fullPath bestPath pathFrom firstPath firstOf leaving leavingBy describeRelationship decimal digits stepsFrom afterLastEmpty stepLines graphLines strict strictFields fineField matches after nullable valueOf le16s askSubgraph pathBytes pathEntries pathBodies decode isValid ascends shown pairsFrom nameAt encode contents entries pairPlaces placeOf
 examples-hold =
     (refl, (refl, (refl, (refl, (refl, (refl, (refl, (refl, (refl, (refl, (refl, (refl, (refl, (refl, (refl, (refl, (refl, (refl, (refl, (refl, (refl, (refl, (refl, (refl, (refl, (refl, (refl, (refl, (refl, (refl, (refl, tt)))))))))))))))))))))))))))))))

@@ -1,12 +1,42 @@
--- The record's bytes (docs/FORMAT.md, "Records"). Assumes nothing.
+-- The record's bytes (docs/FORMAT.md, "Records"): its sizes and offsets, a meaning as bytes, and bytes as a meaning.
 use mathlib.Core.Bool.{cond, _&&_}
 use mathlib.Core.List.{List, [], _∷_, _++_}
 use mathlib.Core.Option.{Option, some, none}
 use Prim.Native.Nat.{ℕ, zero, suc, _+_, _-_, _*_}
 use lib.ListN.{length, take, drop, replicate}
+use Rattle.model.specs.declared.Kind.{Kind}
+use Rattle.model.specs.declared.Kind.the-variants.{Subgraph, Translation}
 use Rattle.model.specs.Bytes.{Bytes, sameBytes}
 use Rattle.model.specs.Numbers.{le16, number}
 use Rattle.model.specs.Record.{Pair, GraphName, names, bodies, isValid}
+
+-- ------------------------------------------------------------------ sizes: no other definition knows these numbers
+
+-- every record buffer has this length: the counts, 512 entries, 2,048 pairs, 22,520 bytes of names
+abbrev pub recordLength : ℕ
+recordLength = 32768
+
+-- the four counts
+abbrev pub countsLength : ℕ
+countsLength = 8
+
+-- start and length of a name
+abbrev pub entryLength : ℕ
+entryLength = 4
+
+-- two places
+abbrev pub pairLength : ℕ
+pairLength = 4
+
+-- where entry i begins; the pairs begin where the entry after the last would
+abbrev pub entryAt : ℕ → ℕ
+entryAt i = countsLength + entryLength * i
+
+-- where the bodies begin, after n entries and k pairs of both kinds together
+abbrev pub bodiesAfter : ℕ → ℕ → ℕ
+bodiesAfter n k = entryAt n + pairLength * k
+
+-- ------------------------------------------------------------------ a meaning as bytes
 
 -- the place of x, or the length where it is not there
 unfoldable pub placeOf : Bytes → List Bytes → ℕ
@@ -32,22 +62,59 @@ contents g =
     le16 (length (names g)) ++ le16 (ownPlace (names g) (g .name)) ++ le16 (length (g .subgraph)) ++ le16 (length (g .translation))
     ++ entries 0 (names g) ++ pairPlaces (names g) (g .subgraph) ++ pairPlaces (names g) (g .translation) ++ bodies (names g)
 
--- every record buffer has this length
-abbrev pub recordLength : ℕ
-recordLength = 32768
-
 unfoldable pub encode : GraphName → Bytes
 encode g = contents g ++ replicate (recordLength - length (contents g)) 0
 
+-- where the body of a name stands in the record
+unfoldable pub bodyOf : GraphName → Bytes → ℕ
+bodyOf g n =
+    bodiesAfter (length (names g)) (length (g .subgraph) + length (g .translation)) + length (bodies (take (placeOf n (names g)) (names g)))
+
+-- ------------------------------------------------------------------ bytes as a meaning
+
+-- the four counts: names; the own name's place and one more, or 0 for none; pairs of each kind
+abbrev pub nameCount : Bytes → ℕ
+nameCount b = number b 0
+
+abbrev pub ownNumber : Bytes → ℕ
+ownNumber b = number b 2
+
+abbrev pub pairCount : Kind → Bytes → ℕ
+pairCount Subgraph b = number b 4
+pairCount Translation b = number b 6
+
+-- start and length of the body at place i, the start counted from the first body
+abbrev pub bodyStart : Bytes → ℕ → ℕ
+bodyStart b i = number b (entryAt i)
+
+abbrev pub bodyLength : Bytes → ℕ → ℕ
+bodyLength b i = number b (entryAt i + 2)
+
+-- where the pairs of a kind begin, and where the bodies do
+abbrev pub tableAt : Kind → Bytes → ℕ
+tableAt Subgraph b = entryAt (nameCount b)
+tableAt Translation b = entryAt (nameCount b) + pairLength * pairCount Subgraph b
+
+abbrev pub bodiesAt : Bytes → ℕ
+bodiesAt b = bodiesAfter (nameCount b) (pairCount Subgraph b + pairCount Translation b)
+
+-- the places of the two names of the pair at byte `at`
+abbrev pub fromPlace : Bytes → ℕ → ℕ
+fromPlace b at = number b at
+
+abbrev pub toPlace : Bytes → ℕ → ℕ
+toPlace b at = number b (at + 2)
+
 -- what a buffer would mean, were it a record: read straight off, with no test
 unfoldable pub nameAt : Bytes → ℕ → Bytes
-nameAt b i =
-    take (number b (8 + 4 * i + 2))
-    (drop (8 + 4 * (number b 0 + number b 4 + number b 6) + number b (8 + 4 * i)) b)
+nameAt b i = take (bodyLength b i) (drop (bodiesAt b + bodyStart b i) b)
+
+abbrev pub pairAt : Bytes → ℕ → Pair
+pairAt b at = record { from = nameAt b (fromPlace b at); to = nameAt b (toPlace b at) }
 
 unfoldable pub pairsFrom : Bytes → ℕ → ℕ → List Pair
 pairsFrom b at zero = []
-pairsFrom b at (suc k) = record { from = nameAt b (number b at); to = nameAt b (number b (at + 2)) } ∷ pairsFrom b (at + 4) k
+pairsFrom b at (suc k) = pairAt b at ∷ pairsFrom b (at + pairLength) k
 
 abbrev pub ownAt : Bytes → ℕ → Option Bytes
 ownAt b zero = none
@@ -55,9 +122,9 @@ ownAt b (suc i) = some (nameAt b i)
 
 unfoldable pub shown : Bytes → GraphName
 shown b = record {
-  name = ownAt b (number b 2);
-  subgraph = pairsFrom b (8 + 4 * number b 0) (number b 4);
-  translation = pairsFrom b (8 + 4 * number b 0 + 4 * number b 4) (number b 6);
+  name = ownAt b (ownNumber b);
+  subgraph = pairsFrom b (tableAt Subgraph b) (pairCount Subgraph b);
+  translation = pairsFrom b (tableAt Translation b) (pairCount Translation b);
 }
 
 -- a buffer is a record exactly if what it shows is valid and it is the encoding of that

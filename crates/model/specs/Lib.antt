@@ -4,6 +4,7 @@ pub mod Bytes
 pub mod Numbers
 pub mod Record
 pub mod Layout
+pub mod Opening
 pub mod Questions
 pub mod Reading
 pub mod Message

@@ -1,4 +1,4 @@
--- The text of a reading's refusal, as the Rust words it, from its number, its line and the quoted part. Assumes nothing.
+-- The text of a reading's refusal, as the Rust words it, from its number, its line and the quoted part.
 use mathlib.Core.Bool.{cond}
 use mathlib.Core.List.{[], _++_}
 use Prim.Native.Nat.{ℕ}

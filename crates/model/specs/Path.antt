@@ -1,4 +1,4 @@
--- Paths (document 01's chains) over the relations of two graph names taken together. Assumes nothing.
+-- Paths (document 01's chains) over the relations of two graph names taken together.
 use mathlib.Core.Bool.{cond}
 use mathlib.Core.List.{List, [], _∷_, _++_}
 use mathlib.Core.Option.{Option, some, none}

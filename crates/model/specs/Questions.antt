@@ -1,57 +1,23 @@
--- What the questions about one record or two give, from the buffers alone: the number of a refusal, or the values. Assumes nothing.
-use mathlib.Core.Bool.{Bool, true, false, cond, _&&_}
+-- What the questions about one record or two give, from the buffers alone: the number of a refusal, or the values.
+use mathlib.Core.Bool.{Bool, false}
 use mathlib.Core.List.{List}
 use mathlib.Core.Option.{Option, some, none}
-use Prim.Native.Nat.{ℕ, _+_, _*_}
-use lib.ListN.{length, take, getElem?}
-use lib.Dec.{eqb}
+use Prim.Native.Nat.{ℕ}
+use lib.ListN.{length, getElem?}
 use Rattle.model.specs.declared.Kind.{Kind}
 use Rattle.model.specs.declared.Kind.the-variants.{Subgraph, Translation}
 use Rattle.model.specs.Bytes.{Bytes, sameBytes}
-use Rattle.model.specs.Record.{Pair, GraphName, names, bodies}
-use Rattle.model.specs.Layout.{recordLength, placeOf, decode}
+use Rattle.model.specs.Record.{Pair, GraphName, names}
+use Rattle.model.specs.Layout.{bodyOf}
+use Rattle.model.specs.Opening.{Given, refuses, gives, andThen, opened, recordIn, twoRecords}
 
--- what a question gives: a refusal's number, or an answer
-pub data Given (A : Type 0) : Type 0 where
-  refuses : ℕ → Given A
-  gives : A → Given A
-
-abbrev pub isSome : {A : Type 0} → Option A → Bool
-isSome none = false
-isSome (some a) = true
-
--- what is wrong with a record buffer, as its number (docs/FORMAT.md), or 0
-unfoldable pub faultOf : Bytes → ℕ
-faultOf b = cond (eqb (length b) recordLength) (cond (isSome (decode b)) 0 16) 15
-
--- of two: 15 of either, then 16 of one's own, then of the other
-unfoldable pub faultOfBoth : Bytes → Bytes → ℕ
-faultOfBoth b c =
-    cond (eqb (length b) recordLength && eqb (length c) recordLength) (cond (isSome (decode b) && isSome (decode c)) 0 16) 15
-
--- 0 is done
-abbrev pub numberOf : {A : Type 0} → Given A → ℕ
-numberOf (refuses n) = n
-numberOf (gives a) = 0
-
--- what a number beside the answer then holds: it is written on 0 only
-abbrev pub valueOr : {A : Type 0} → ℕ → (A → ℕ) → Given A → ℕ
-valueOr old f (refuses n) = old
-valueOr old f (gives a) = f a
-
-abbrev pub ifDecoded : {A : Type 0} → Option GraphName → (GraphName → Given A) → Given A
-ifDecoded none f = refuses 16
-ifDecoded (some g) f = f g
-
--- 15 first, then 16; of two records likewise
+-- f of the record
 unfoldable pub asked : {A : Type 0} → Bytes → (GraphName → A) → Given A
-asked b f = cond (eqb (length b) recordLength) (ifDecoded (decode b) (λ g. gives (f g))) (refuses 15)
+asked b f = andThen (opened (recordIn b)) λ g. gives (f g)
 
+-- f of two records
 unfoldable pub askedBoth : {A : Type 0} → Bytes → Bytes → (GraphName → GraphName → A) → Given A
-askedBoth b c f =
-    cond (eqb (length b) recordLength && eqb (length c) recordLength)
-    (ifDecoded (decode b) (λ g. ifDecoded (decode c) (λ h. gives (f g h))))
-    (refuses 15)
+askedBoth b c f = andThen (opened (twoRecords b c)) λ r. gives (f (r .0) (r .1))
 
 -- how many names and pairs
 pub record Counts : Type 0 where
@@ -69,10 +35,7 @@ pub record Part : Type 0 where
 
 -- where the body of a name stands in the record
 unfoldable pub partOf : GraphName → Bytes → Part
-partOf g n = record {
-  start = 8 + 4 * (length (names g) + length (g .subgraph) + length (g .translation)) + length (bodies (take (placeOf n (names g)) (names g)));
-  size = length n;
-}
+partOf g n = record { start = bodyOf g n; size = length n }
 
 abbrev pub mapped : {A B : Type 0} → (A → B) → Option A → Option B
 mapped f none = none

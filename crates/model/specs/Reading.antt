@@ -1,4 +1,4 @@
--- What a reading of header lines and of tags gives. Assumes nothing.
+-- What a reading of header lines and of tags gives.
 use mathlib.Core.Bool.{Bool, cond, not, _&&_, _||_}
 use mathlib.Core.List.{List, [], _∷_}
 use mathlib.Core.Option.{Option, some, none}

@@ -1,4 +1,4 @@
--- The laws that the definitions must be shown to have, each as a type. Assumes nothing.
+-- The laws that the definitions must be shown to have, each as a type.
 use mathlib.Core.Path.{_≡_}
 use mathlib.Core.Bool.{true}
 use mathlib.Core.Logic.{_⊎_, _↔_, _≢_}
@@ -21,7 +21,8 @@ use Rattle.model.specs.Writing.{toGfaHeaderLines, toGafHeaderLines, rela
 use Rattle.model.specs.Path.{Step, pathBytes}
 use Rattle.model.specs.Outcome.{Outcome, readInto, readTagsInto, refusalInto, newRecord, addSubgraph, addTranslation, addRelationships, makeSubgraphOf, addTranslationTo}
 use Rattle.model.specs.Outcome.{Answer, refusal, notFound, found, askSubgraph, askFull, outputAfter, answerNumber, answerValue}
-use Rattle.model.specs.Questions.{Given, numberOf, valueOr, countsIn, nameIn, nameAtIn, pairAtIn, isSameIn}
+use Rattle.model.specs.Questions.{countsIn, nameIn, nameAtIn, pairAtIn, isSameIn}
+use Rattle.model.specs.Opening.{Given, numberOf, valueOr}
 use Rattle.model.specs.Written.{gfaWritten, gafWritten, messageWritten, relationshipWritten, outputWith, Tags, tagsWritten, outputWithTag}
 use Rattle.model.specs.Strict.{letter, Matches, valueOf, strict}
 

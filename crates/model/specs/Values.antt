@@ -1,5 +1,4 @@
 -- The numbers that answers are handed out as, and the flags that come in: 1 and 0 for yes and no, 0 beside a part that is not there.
--- Assumes nothing.
 use mathlib.Core.Bool.{Bool, true, false, cond, not}
 use mathlib.Core.Option.{Option, some, none}
 use Prim.Native.Nat.{ℕ, _+_}

@@ -1,4 +1,4 @@
--- The texts that a graph name is written as. Assumes nothing.
+-- The texts that a graph name is written as.
 use mathlib.Core.List.{List, [], _∷_, _++_}
 use mathlib.Core.Option.{Option, some, none}
 use Prim.Native.Nat.{ℕ}

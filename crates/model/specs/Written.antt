@@ -1,5 +1,4 @@
 -- What the writers give, from their arguments alone: the number of a refusal, or the bytes that go to the front of an output.
--- Assumes nothing.
 use mathlib.Core.Bool.{Bool, true, cond, _&&_}
 use mathlib.Core.Option.{Option, some, none}
 use Prim.Native.Nat.{ℕ}
@@ -7,7 +6,8 @@ use lib.ListN.{length}
 use lib.Dec.{leb}
 use Rattle.model.specs.Bytes.{Bytes, put}
 use Rattle.model.specs.Record.{GraphName}
-use Rattle.model.specs.Questions.{Given, refuses, gives, asked, askedBoth, mapped}
+use Rattle.model.specs.Questions.{asked, askedBoth, mapped}
+use Rattle.model.specs.Opening.{Given, refuses, gives}
 use Rattle.model.specs.Message.{errorMessage}
 use Rattle.model.specs.Writing.{toGfaHeaderLines, toGafHeaderLines, relationsTag}
 use Rattle.model.specs.Describe.{describeRelationship}

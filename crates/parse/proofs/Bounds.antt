@@ -7,11 +7,14 @@ use Prim.Native.Nat.{ℕ, suc, _+_, _≤_}
 use native.Mathlib.Omega.{arith}
 use lib.Dec.{lit≤, eqb, ltb}
 use lib.ListN.{length, take, drop, getD}
-use borrow.Author.Tests.{eqb-true}
+use borrow.Author.Tests.{eqb-true, eqb-false}
 use Rattle.model.specs.Text.{text}
+use Rattle.record.proofs.Opening.{written-opened, written-refused}
+use Rattle.model.specs.Opening.{hasSize}
+use Rattle.model.specs.Layout.{recordLength}
 use Rattle.model.specs.Bytes.{Bytes, sameBytes, split}
 use Rattle.model.specs.Record.{Pair, GraphName, empty, insertAll, withName, names, anyLong, bodies, judge}
-use Rattle.model.specs.Outcome.{refusalOf, refusalInto}
+use Rattle.model.specs.Outcome.{refusalInto}
 use Rattle.model.specs.declared.Kind.the-variants.{Subgraph, Translation}
 use Rattle.model.specs.Reading.{Reading, done, refused, Taken, took, wrong, judged, twoParts, orWrong, addTo, isTyped, typedField, oneName, gafLine, afterTaken, afterReading, refuse, typedFields, isGafHead, lineFields, linesFrom, withoutLastEmpty, fromHeaderLines, tagRelations, tagValue, nameValue, fromTags}
 
@@ -122,9 +125,9 @@ tags-small n s t =
     (λ g h. reading-small (tagValue 9 (addTo Subgraph) s g) (tagValue 10 (addTo Translation) t) (value-small 9 (lit≤ tt) (addTo Subgraph) s g h) (value-small 10 (lit≤ tt) (addTo Translation) t))
 
 pub into-small : (r : Reading) (buffer : Bytes) → Small r → refusalInto r buffer .number ≤ 15
-into-small r buffer s = go (eqb (length buffer) 32768) r s
+into-small r buffer s = go (hasSize buffer) refl r s
   where
-    go : (t : Bool) (r : Reading) → Small r → _≤_ ((cond t (refusalOf r) (record { number = 15; line = 0; start = 0; size = 0 })) .number) 15
-    go true (done g) s = lit≤ tt
-    go true (refused r) s = omega arith
-    go false r s = lit≤ tt
+    go : (t : Bool) → hasSize buffer ≡ t → (r : Reading) → Small r → refusalInto r buffer .number ≤ 15
+    go true e (done g) s = rw (written-opened buffer (eqb-true (length buffer) recordLength e)) (lit≤ tt)
+    go true e (refused r) s = rw (written-opened buffer (eqb-true (length buffer) recordLength e)) (omega arith)
+    go false e r s = rw (written-refused buffer (eqb-false (length buffer) recordLength e)) (lit≤ tt)

@@ -13,42 +13,44 @@ use Rattle.model.specs.declared.Kind.{Kind}
 use Rattle.model.specs.declared.Kind.the-variants.{Subgraph, Translation}
 use Rattle.model.specs.Bytes.{Bytes, isEmpty}
 use Rattle.model.specs.Record.{Pair, GraphName, empty, withName, withPair, withRelationships, names, bodies, judge}
-use Rattle.model.specs.Layout.{entries, pairPlaces, contents, encode, decode}
+use Rattle.model.specs.Layout.{recordLength, entryLength, pairLength, bodiesAfter, entries, pairPlaces, contents, encode, decode}
 use Rattle.model.specs.Reading.{Reading, done, refused, fromHeaderLines, fromTags}
 use Rattle.model.specs.Path.{Step, subgraphPath, fullPath, pathBytes}
 use Rattle.model.specs.Message.{errorMessage}
 use Rattle.model.specs.Describe.{describeRelationship}
 use Rattle.model.specs.Writing.{toGfaHeaderLines, toGafHeaderLines}
-use Rattle.model.specs.Outcome.{Outcome, outcomeOf, readingInto, readInto, readTagsInto, refusalOf, refusalInto, keptOr, changed, opened, addPair, addSubgraph, addTranslation, openedBoth, addRelationships, related, relate, makeSubgraphOf, addTranslationTo, freshOr, newRecord}
-use Rattle.model.specs.Outcome.{Answer, refusal, notFound, found, answered, nameOr, both, sized, ask, askSubgraph, askFull, outputAfter, answerNumber, answerValue}
-use Rattle.model.specs.Questions.{Given, refuses, gives, ifDecoded, asked, askedBoth, numberOf, countsIn, nameIn, nameAtIn, pairAtIn, isSameIn}
+use Rattle.model.specs.Outcome.{Outcome, readingInto, readInto, readTagsInto, refusalInto, orLeft, keptOr, addPair, addSubgraph, addTranslation, changeFrom, addRelationships, related, relate, makeSubgraphOf, addTranslationTo, freshOr, newRecord}
+use Rattle.model.specs.Outcome.{Answer, refusal, notFound, found, answered, nameOr, orRefusal, sized, ask, askSubgraph, askFull, outputAfter, answerNumber, answerValue}
+use Rattle.model.specs.Questions.{asked, askedBoth, countsIn, nameIn, nameAtIn, pairAtIn, isSameIn}
+use Rattle.model.specs.Opening.{Given, refuses, gives, numberOf, andThen, bothGiven, orRefuse, Buffer, opened, hasSize, recordIn, twoRecords}
 use Rattle.model.specs.Written.{within, gfaWritten, gafWritten, messageWritten, withDescs, relationshipWritten, outputWith, Tags, tagsOf, fits, allWithin, tagsWritten, putValue}
 use Rattle.model.specs.Statements.{LeavesEmpty, LeavesRecord, LeavesNumbers, LeavesOutput, OneTagLeft, LeavesTags, LeavesAnswer, Demand1}
 use Rattle.text.proofs.Put.{length-put}
 use Rattle.text.proofs.Tests.{both-true}
 use Rattle.record.proofs.Sizes.{judge-sizes}
+use Rattle.record.proofs.Opening.{written-opened, written-refused}
 use Rattle.parse.proofs.Bounds.{Small, judge-small, header-small, tags-small}
 
 -- ------------------------------------------------------------------ a record is as long as its buffer
 
-length-entries : (start : ℕ) (ns : List Bytes) → length (entries start ns) ≡ 4 * length ns
+length-entries : (start : ℕ) (ns : List Bytes) → length (entries start ns) ≡ entryLength * length ns
 unfolding entries
 length-entries start [] = refl
 length-entries start (n ∷ ns) = omega (arith, length-entries (start + length n) ns)
 
-length-places : (ns : List Bytes) (ps : List Pair) → length (pairPlaces ns ps) ≡ 4 * length ps
+length-places : (ns : List Bytes) (ps : List Pair) → length (pairPlaces ns ps) ≡ pairLength * length ps
 unfolding pairPlaces
 length-places ns [] = refl
 length-places ns (p ∷ ps) = omega (arith, length-places ns ps)
 
 length-contents : (g : GraphName)
-    → length (contents g) ≡ 8 + 4 * length (names g) + 4 * length (g .subgraph) + 4 * length (g .translation) + length (bodies (names g))
+    → length (contents g) ≡ bodiesAfter (length (names g)) (length (g .subgraph) + length (g .translation)) + length (bodies (names g))
 unfolding contents
 length-contents g =
     simp length-append
     (omega (arith, length-entries 0 (names g), length-places (names g) (g .subgraph), length-places (names g) (g .translation)))
 
-length-encode : (g : GraphName) → judge g ≡ 0 → length (encode g) ≡ 32768
+length-encode : (g : GraphName) → judge g ≡ 0 → length (encode g) ≡ recordLength
 unfolding encode
 length-encode g j =
     let s = judge-sizes g j in
@@ -60,9 +62,9 @@ length-encode g j =
 record EmptyAt (b : Bytes) (o : Outcome) : Type 0 where
   number : o .number ≤ 18
   size : length (o .buffer) ≡ length b
-  wrong : length b ≢ 32768 → (o .number ≡ 15) × (o .buffer ≡ b)
-  refused : o .number ≢ 0 → o .number ≢ 15 → o .buffer ≡ replicate 32768 0
-  fifteen : o .number ≡ 15 → length b ≢ 32768
+  wrong : length b ≢ recordLength → (o .number ≡ 15) × (o .buffer ≡ b)
+  refused : o .number ≢ 0 → o .number ≢ 15 → o .buffer ≡ replicate recordLength 0
+  fifteen : o .number ≡ 15 → length b ≢ recordLength
 
 leaves-empty : (entry : Bytes → Outcome) → ((b : Bytes) → EmptyAt b (entry b)) → LeavesEmpty entry
 leaves-empty entry h = record {
@@ -72,10 +74,10 @@ leaves-empty entry h = record {
 }
 
 module _ (b : Bytes) where
-  wrong-size : length b ≢ 32768 → EmptyAt b (record { number = 15; buffer = b })
+  wrong-size : length b ≢ recordLength → EmptyAt b (record { number = 15; buffer = b })
   wrong-size w = record { number = lit≤ tt; size = refl; wrong = λ n. (refl, refl); refused = λ m n. absurd (n refl); fifteen = λ e. w }
 
-  module _ (e : length b ≡ 32768) where
+  module _ (e : length b ≡ recordLength) where
     stored : (g : GraphName) → judge g ≡ 0 → EmptyAt b (record { number = 0; buffer = encode g })
     stored g j = record {
       number = lit≤ tt;
@@ -85,10 +87,10 @@ module _ (b : Bytes) where
       fifteen = λ (n : _≡_ {A = ℕ} 0 15). absurd (omega arith);
     }
 
-    cleared : (n : ℕ) → n ≤ 14 → EmptyAt b (record { number = n; buffer = replicate 32768 0 })
+    cleared : (n : ℕ) → n ≤ 14 → EmptyAt b (record { number = n; buffer = replicate recordLength 0 })
     cleared n h = record {
       number = omega arith;
-      size = length-replicate {A = ℕ} 32768 0 ∙ sym e;
+      size = length-replicate {A = ℕ} recordLength 0 ∙ sym e;
       wrong = λ m. absurd (m e);
       refused = λ m k. refl;
       fifteen = λ (m : n ≡ 15). absurd (omega arith);
@@ -98,36 +100,61 @@ module _ (b : Bytes) where
     fresh g = go (eqb (judge g) 0) refl
       where
         go : (t : Bool) → eqb (judge g) 0 ≡ t
-            → EmptyAt b (cond t (record { number = 0; buffer = encode g }) (record { number = judge g; buffer = replicate 32768 0 }))
+            → EmptyAt b (cond t (record { number = 0; buffer = encode g }) (record { number = judge g; buffer = replicate recordLength 0 }))
         go true h = stored g (eqb-true (judge g) 0 h)
         go false h = cleared (judge g) (judge-small g)
 
   reading : (r : Reading) → Small r → EmptyAt b (record { number = refusalInto r b .number; buffer = readingInto r b .buffer })
-  reading r s = go (eqb (length b) 32768) refl r s
+  reading r s = go (hasSize b) refl r s
     where
-      go : (t : Bool) → eqb (length b) 32768 ≡ t → (r : Reading) → Small r
-          → EmptyAt b (record {
-            number = (cond t (refusalOf r) (record { number = 15; line = 0; start = 0; size = 0 })) .number;
-            buffer = (cond t (outcomeOf r) (record { number = 15; buffer = b })) .buffer;
-          })
-      go true e (done g) s = stored (eqb-true (length b) 32768 e) g s
-      go true e (refused r) s = cleared (eqb-true (length b) 32768 e) (r .number) s
-      go false e r s = wrong-size (eqb-false (length b) 32768 e)
+      go : (t : Bool) → hasSize b ≡ t → (r : Reading) → Small r → EmptyAt b (record { number = refusalInto r b .number; buffer = readingInto r b .buffer })
+      go true e (done g) s = let l = eqb-true (length b) recordLength e in rw (written-opened b l) (stored l g s)
+      go true e (refused r) s = let l = eqb-true (length b) recordLength e in rw (written-opened b l) (cleared l (r .number) s)
+      go false e r s = let l = eqb-false (length b) recordLength e in rw (written-refused b l) (wrong-size l)
 
   new-left : (n : Bytes) → EmptyAt b (newRecord n b)
   unfolding newRecord
-  new-left n = go (eqb (length b) 32768) refl
+  new-left n = go (hasSize b) refl
     where
-      go : (t : Bool) → eqb (length b) 32768 ≡ t → EmptyAt b (cond t (freshOr (withName n empty)) (record { number = 15; buffer = b }))
-      go true e = fresh (eqb-true (length b) 32768 e) (withName n empty)
-      go false e = wrong-size (eqb-false (length b) 32768 e)
+      go : (t : Bool) → hasSize b ≡ t → EmptyAt b (newRecord n b)
+      go true e = let l = eqb-true (length b) recordLength e in rw (written-opened b l) (fresh l (withName n empty))
+      go false e = let l = eqb-false (length b) recordLength e in rw (written-refused b l) (wrong-size l)
+
+-- ------------------------------------------------------------------ buffers that are read
+
+-- the numbers of what is read of one record and of two
+record-small : (b : Bytes) → numberOf (recordIn b .reading) ≤ 18
+record-small b = go (decode b)
+  where
+    go : (o : Option GraphName) → numberOf (orRefuse 16 o) ≤ 18
+    go none = lit≤ tt
+    go (some g) = lit≤ tt
+
+two-small : (b c : Bytes) → numberOf (twoRecords b c .reading) ≤ 18
+two-small b c = go (recordIn b .reading) (recordIn c .reading) (record-small b) (record-small c)
+  where
+    go : (g h : Given GraphName) → numberOf g ≤ 18 → numberOf h ≤ 18 → numberOf (bothGiven g h) ≤ 18
+    go (refuses n) h p q = p
+    go (gives a) (refuses n) p q = q
+    go (gives a) (gives c) p q = lit≤ tt
+
+-- f of what was opened, for whatever an opening gives: a size, a number of what is read, or an answer
+module _ {A B : Type 0} (x : Buffer A) (small : numberOf (x .reading) ≤ 18) (f : Given A → B) (P : B → Type 0) where
+  of-opened : P (f (refuses 15)) → ((n : ℕ) → x .sized ≡ true → n ≤ 18 → P (f (refuses n))) → ((a : A) → x .sized ≡ true → P (f (gives a))) → P (f (opened x))
+  unfolding opened
+  of-opened sized numbered given = go (x .sized) refl (x .reading) small
+    where
+      go : (t : Bool) → x .sized ≡ t → (g : Given A) → numberOf g ≤ 18 → P (f (cond t g (refuses 15)))
+      go false e g h = sized
+      go true e (refuses n) h = numbered n e h
+      go true e (gives a) h = given a e
 
 -- ------------------------------------------------------------------ changes
 
 record RecordAt (b : Bytes) (o : Outcome) : Type 0 where
   number : o .number ≤ 18
   size : length (o .buffer) ≡ length b
-  wrong : length b ≢ 32768 → (o .number ≡ 15) × (o .buffer ≡ b)
+  wrong : length b ≢ recordLength → (o .number ≡ 15) × (o .buffer ≡ b)
   refused : o .number ≢ 0 → o .buffer ≡ b
 
 leaves-record : (entry : Bytes → Outcome) → ((b : Bytes) → RecordAt b (entry b)) → LeavesRecord entry
@@ -140,7 +167,7 @@ module _ (b : Bytes) where
   fifteen-left : RecordAt b (record { number = 15; buffer = b })
   fifteen-left = record { number = lit≤ tt; size = refl; wrong = λ n. (refl, refl); refused = λ n. refl }
 
-  module _ (e : length b ≡ 32768) where
+  module _ (e : length b ≡ recordLength) where
     left : (n : ℕ) → n ≤ 18 → RecordAt b (record { number = n; buffer = b })
     left n h = record { number = h; size = refl; wrong = λ m. absurd (m e); refused = λ m. refl }
 
@@ -156,10 +183,6 @@ module _ (b : Bytes) where
         }
         go false h = left (judge g) (let k = judge-small g in omega arith)
 
-    changed-left : (o : Option GraphName) (f : GraphName → Outcome) → ((g : GraphName) → RecordAt b (f g)) → RecordAt b (changed b o f)
-    changed-left none f h = left 16 (lit≤ tt)
-    changed-left (some g) f h = h g
-
     related-left : (kind : Kind) (g h : GraphName) (m n : Option Bytes) → RecordAt b (related kind b g h m n)
     related-left kind g h none n = left 0 (lit≤ tt)
     related-left kind g h (some m) none = left 0 (lit≤ tt)
@@ -169,27 +192,23 @@ module _ (b : Bytes) where
     added-left true g = left 0 (lit≤ tt)
     added-left false g = kept g
 
-  opened-left : (f : GraphName → Outcome) → (length b ≡ 32768 → (g : GraphName) → RecordAt b (f g)) → RecordAt b (opened b f)
-  opened-left f h = go (eqb (length b) 32768) refl
+  opened-left : {A : Type 0} (x : Buffer A) → numberOf (x .reading) ≤ 18 → (x .sized ≡ true → hasSize b ≡ true) → (f : A → Outcome)
+      → (length b ≡ recordLength → (a : A) → RecordAt b (f a)) → RecordAt b (orLeft b (opened x) f)
+  opened-left x small sized f h =
+      of-opened x small (λ g. orLeft b g f) (RecordAt b) fifteen-left
+      (λ n e k. left (long e) n k) (λ a e. h (long e) a)
     where
-      go : (t : Bool) → eqb (length b) 32768 ≡ t → RecordAt b (cond t (changed b (decode b) f) (record { number = 15; buffer = b }))
-      go true e = let l = eqb-true (length b) 32768 e in changed-left l (decode b) f (h l)
-      go false e = fifteen-left
+      long : x .sized ≡ true → length b ≡ recordLength
+      long e = eqb-true (length b) recordLength (sized e)
 
-  both-left : (c : Bytes) (f : GraphName → GraphName → Outcome) → (length b ≡ 32768 → (g h : GraphName) → RecordAt b (f g h)) → RecordAt b (openedBoth b c f)
-  both-left c f h = go (eqb (length b) 32768) refl (eqb (length c) 32768)
-    where
-      go : (t : Bool) → eqb (length b) 32768 ≡ t → (u : Bool)
-          → RecordAt b (cond (t && u) (changed b (decode b) λ g. changed b (decode c) λ h. f g h) (record { number = 15; buffer = b }))
-      go true e true =
-          let l = eqb-true (length b) 32768 e in
-          changed-left l (decode b) _ (λ g. changed-left l (decode c) _ (λ k. h l g k))
-      go true e false = fifteen-left
-      go false e u = fifteen-left
+  both-left : (c : Bytes) (f : GraphName → GraphName → Outcome) → (length b ≡ recordLength → (g h : GraphName) → RecordAt b (f g h)) → RecordAt b (changeFrom b c f)
+  both-left c f h =
+      opened-left (twoRecords b c) (two-small b c) (λ e. both-true (hasSize b) (hasSize c) e .0) (λ r. f (r .0) (r .1)) (λ e r. h e (r .0) (r .1))
 
   pair-left : (kind : Kind) (from to : Bytes) → RecordAt b (addPair kind from to b)
   pair-left kind from to =
-      opened-left _ (λ e g. added-left e (isEmpty from || isEmpty to) (withPair kind (record { from = from; to = to }) g))
+      opened-left (recordIn b) (record-small b) (λ e. e) _
+      (λ e g. added-left e (isEmpty from || isEmpty to) (withPair kind (record { from = from; to = to }) g))
 
   relate-left : (kind : Kind) (parent : Bytes) → RecordAt b (relate kind b parent)
   relate-left kind parent = both-left parent _ (λ e g h. related-left e kind g h (g .name) (h .name))
@@ -202,22 +221,13 @@ numbers-left (gives x) h = record { number = h; kept = λ m. absurd (m refl) }
 
 asked-small : {A : Type 0} (b : Bytes) (f : GraphName → A) → numberOf (asked b f) ≤ 18
 unfolding asked
-asked-small {A} b f = go (eqb (length b) 32768) (decode b)
-  where
-    go : (t : Bool) (o : Option GraphName) → numberOf (cond t (ifDecoded {A = A} o (λ g. gives (f g))) (refuses 15)) ≤ 18
-    go true none = lit≤ tt
-    go true (some g) = lit≤ tt
-    go false o = lit≤ tt
+asked-small {A} b f =
+    of-opened (recordIn b) (record-small b) (λ g. andThen g λ h. gives (f h)) (λ (g : Given A). numberOf g ≤ 18) (lit≤ tt) (λ n e h. h) (λ g e. lit≤ tt)
 
 both-small : {A : Type 0} (b c : Bytes) (f : GraphName → GraphName → A) → numberOf (askedBoth b c f) ≤ 18
 unfolding askedBoth
-both-small {A} b c f = go (eqb (length b) 32768 && eqb (length c) 32768) (decode b) (decode c)
-  where
-    go : (t : Bool) (o p : Option GraphName) → numberOf (cond t (ifDecoded {A = A} o (λ g. ifDecoded p (λ h. gives (f g h)))) (refuses 15)) ≤ 18
-    go true none p = lit≤ tt
-    go true (some g) none = lit≤ tt
-    go true (some g) (some h) = lit≤ tt
-    go false o p = lit≤ tt
+both-small {A} b c f =
+    of-opened (twoRecords b c) (two-small b c) (λ g. andThen g λ r. gives (f (r .0) (r .1))) (λ (g : Given A). numberOf g ≤ 18) (lit≤ tt) (λ n e h. h) (λ g e. lit≤ tt)
 
 asked-left : {A : Type 0} (b : Bytes) (f : GraphName → A) → LeavesNumbers (asked b f)
 asked-left b f = numbers-left (asked b f) (asked-small b f)
@@ -231,7 +241,9 @@ FitsIn room (found bytes) = length bytes ≤ room
 
 module _ (path : GraphName → GraphName → Option (List Step)) (b c : Bytes) where
   answer-fits : (room : ℕ) → FitsIn room (ask path b c room)
-  answer-fits room = go (eqb (length b) 32768) (eqb (length c) 32768) (decode b) (decode c)
+  answer-fits room =
+      of-opened (twoRecords b c) (two-small b c) (λ g. orRefusal g λ r. sized room (answered (nameOr (r .0 .name)) (path (r .0) (r .1)))) (FitsIn room)
+      (lit≤ tt) (λ n e h. h) (λ r e. whole (nameOr (r .0 .name)) (path (r .0) (r .1)))
     where
       cut : (bytes : Bytes) (t : Bool) → leb (length bytes) room ≡ t → FitsIn room (cond t (found bytes) (refusal 17))
       cut bytes true e = leb-true (length bytes) room e
@@ -240,13 +252,6 @@ module _ (path : GraphName → GraphName → Option (List Step)) (b c : Bytes) w
       whole : (a : Bytes) (o : Option (List Step)) → FitsIn room (sized room (answered a o))
       whole a none = tt
       whole a (some ss) = cut (pathBytes a ss) (leb (length (pathBytes a ss)) room) refl
-
-      go : (t u : Bool) (o p : Option GraphName) → FitsIn room (cond t (cond u (sized room (both path o p)) (refusal 15)) (refusal 15))
-      go true true none p = lit≤ tt
-      go true true (some g) none = lit≤ tt
-      go true true (some g) (some h) = whole (nameOr (g .name)) (path g h)
-      go true false o p = lit≤ tt
-      go false u o p = lit≤ tt
 
   answer-left : LeavesAnswer (ask path b c)
   answer-left = record {

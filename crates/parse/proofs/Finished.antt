@@ -5,27 +5,28 @@ use mathlib.Core.List.{List, append-nil, List·Memᴰ·not-nil}
 use Prim.Native.Nat.{ℕ, _+_, _-_}
 use native.Mathlib.Omega.{arith}
 use lib.ListN.{length, replicate, drop-of-length-le, length-replicate}
-use borrow.Author.Tests.{eq-eqb, ne-eqb}
 use Rattle.model.specs.Bytes.{Bytes, put}
 use Rattle.model.specs.Record.{empty, insertAll, names, judge}
-use Rattle.model.specs.Layout.{encode}
+use Rattle.model.specs.Layout.{recordLength, encode}
 use Rattle.model.specs.Statements.{Ascending}
 use Rattle.model.specs.Reading.{fromHeaderLines, Refusal, Reading}
 use Rattle.model.specs.Outcome.{outcomeOf, readingInto, refusalOf, refusalInto}
 use Rattle.record.specs.Test.{Under}
+use Rattle.record.proofs.Opening.{written-opened, written-refused}
 use Rattle.tables.specs.Tables.{tables}
 use Rattle.tables.specs.Judging.{Good}
 use Rattle.tables.specs.declared.putting.Sizes.{Sizes}
 use Rattle.tables.specs.Tables.{Tables}
 use Rattle.intake.specs.declared.taking.State.{State}
-use Rattle.parse.specs.declared.reading.Ended.{Ended}
-use Rattle.parse.specs.declared.reading.Ended.the-variants.{Done, Refused}
+use Rattle.parse.specs.declared.ending.Refusal.{Refusal as Given}
+use Rattle.parse.specs.declared.ending.Ended.{Ended}
+use Rattle.parse.specs.declared.ending.Ended.the-variants.{Done, Refused}
 use Rattle.parse.specs.declared.finish.Answer.the-variants.{Done as Answered, Refused as Denied}
 use Rattle.fields.specs.Rest.{restOf}
 use Rattle.fields.specs.declared.field.Source.the-variants.{Header}
 use Rattle.fields.proofs.Rest.{header-start}
-use Rattle.parse.specs.Answers.{refusalIn}
-use Rattle.intake.specs.State.{Lengths, nothingTaken, graphNow, Ready}
+use Rattle.parse.specs.Refusals.{unplaced, refusalIn}
+use Rattle.intake.specs.State.{Lengths, nothingTaken, graphNow, FittingState}
 use Rattle.parse.specs.Endings.{firstStop, readingOf}
 
 -- ------------------------------------------------------------------ the start
@@ -49,9 +50,9 @@ module _ (refs subs trans : List ℕ) (pool own : Bytes) (f : Lengths refs subs 
     used = refl;
   }
 
-  pub nothing-ready : Ready (tables refs subs trans pool (nothingTaken .sizes)) own 0
+  pub nothing-fitting : FittingState (tables refs subs trans pool (nothingTaken .sizes)) own 0
   unfolding judge names insertAll
-  nothing-ready = record {
+  nothing-fitting = record {
     held = record {
       good = nothing-good;
       short = omega arith;
@@ -76,21 +77,21 @@ unfolding put
 put-whole buffer x e = rw (drop-of-length-le buffer {i = 0 + length x} (omega arith)) (append-nil x)
 
 -- a buffer cleared from its start is the empty record
-cleared : (buffer : Bytes) → length buffer ≡ 32768 → put buffer 0 (replicate (length buffer - 0) 0) ≡ replicate 32768 0
+cleared : (buffer : Bytes) → length buffer ≡ recordLength → put buffer 0 (replicate (length buffer - 0) 0) ≡ replicate recordLength 0
 cleared buffer e =
-    let z : length buffer - 0 ≡ 32768 = omega arith in
+    let z : length buffer - 0 ≡ recordLength = omega arith in
     put-whole buffer (replicate (length buffer - 0) 0) (length-replicate {A = ℕ} (length buffer - 0) 0 ∙ omega arith)
     ∙ ap (λ (n : ℕ). replicate {A = ℕ} n 0) z
 
 -- a reading into a buffer, by the buffer's size
 module _ (buffer : Bytes) (r : Refusal) (m : Reading) where
-  pub finished : length buffer ≡ 32768 → (n : Reading) → n ≡ m → (b : Bytes) → (r ≡ refusalOf n) × (b ≡ outcomeOf n .buffer)
+  pub finished : length buffer ≡ recordLength → (n : Reading) → n ≡ m → (b : Bytes) → (r ≡ refusalOf n) × (b ≡ outcomeOf n .buffer)
       → (r ≡ refusalInto m buffer) × (b ≡ readingInto m buffer .buffer)
-  finished e n d b f = rw (eq-eqb (length buffer) 32768 e, ← d) f
+  finished e n d b f = rw (written-opened buffer e, ← d) f
 
-  pub wrong-size : (length buffer ≡ 32768 → ⊥) → r ≡ record { number = 15; line = 0; start = 0; size = 0 }
+  pub wrong-size : (length buffer ≡ recordLength → ⊥) → r ≡ unplaced 15
       → (r ≡ refusalInto m buffer) × (buffer ≡ readingInto m buffer .buffer)
-  wrong-size e d = rw (ne-eqb (length buffer) 32768 e) (d, refl)
+  wrong-size e d = rw (written-refused buffer e) (d, refl)
 
 -- what the end of a reading answers and leaves in the buffer
 module _ (at : Sizes → Tables) (own : Bytes) (r : Ended) (buffer b : Bytes) where
@@ -98,7 +99,6 @@ module _ (at : Sizes → Tables) (own : Bytes) (r : Ended) (buffer b : Bytes) wh
       → (refusalIn Answered ≡ refusalOf (readingOf at own r)) × (b ≡ outcomeOf (readingOf at own r) .buffer)
   done-ended s e d = rw e (refl, d)
 
-  pub refused-ended : (number line start size : ℕ) → r ≡ Refused number line start size → length buffer ≡ 32768
-      → b ≡ put buffer 0 (replicate (length buffer - 0) 0)
-      → (refusalIn (Denied number line start size) ≡ refusalOf (readingOf at own r)) × (b ≡ outcomeOf (readingOf at own r) .buffer)
-  refused-ended number line start size e l d = rw e (refl, d ∙ cleared buffer l)
+  pub refused-ended : (q : Given) → r ≡ Refused q → length buffer ≡ recordLength → b ≡ put buffer 0 (replicate (length buffer - 0) 0)
+      → (refusalIn (Denied q) ≡ refusalOf (readingOf at own r)) × (b ≡ outcomeOf (readingOf at own r) .buffer)
+  refused-ended q e l d = rw e (refl, d ∙ cleared buffer l)

@@ -1,9 +1,8 @@
 -- The three tags one after the other: each reading goes on from what the one before has, and a refusal stays.
-use mathlib.Core.Path.{_≡_, refl, sym, subst}
-use mathlib.Core.Bool.{Bool, true, false, cond}
+use mathlib.Core.Path.{_≡_, refl, sym, ap, subst}
+use mathlib.Core.Bool.{Bool, true, false}
 use mathlib.Core.Option.{Option}
 use Prim.Native.Nat.{ℕ}
-use lib.Dec.{ltb}
 use Rattle.model.specs.declared.Kind.{Kind}
 use Rattle.model.specs.declared.Kind.the-variants.{Subgraph, Translation}
 use Rattle.model.specs.Bytes.{Bytes}
@@ -14,61 +13,54 @@ use Rattle.tables.specs.Tables.{Tables}
 use Rattle.intake.specs.declared.taking.State.{State}
 use Rattle.intake.specs.declared.taking.FieldTaken.{FieldTaken}
 use Rattle.intake.specs.declared.taking.FieldTaken.the-variants.{Took, Wrong}
-use Rattle.parse.specs.declared.reading.Ended.{Ended}
-use Rattle.parse.specs.declared.reading.Ended.the-variants.{Done, Refused}
+use Rattle.parse.specs.declared.ending.Refusal.{Refusal}
+use Rattle.parse.specs.declared.ending.Ended.{Ended}
+use Rattle.parse.specs.declared.ending.Ended.the-variants.{Done, Refused}
 use Rattle.fields.specs.declared.field.Source.the-variants.{Tag}
 use Rattle.fields.specs.Fields.{tagNumber}
 use Rattle.fields.specs.Rest.{restOf}
-use Rattle.intake.specs.State.{graphNow, Ready, ReadyAfter, TakenAs}
-use Rattle.parse.specs.Endings.{firstStop, readingOf, ReadyAtEnd, EndedAs}
+use Rattle.intake.specs.State.{graphNow, FittingState, FittingAfter, TakenAs}
+use Rattle.parse.specs.Refusals.{refusalGiven, unplaced}
+use Rattle.parse.specs.Endings.{firstStop, readingOf, FittingAtEnd, EndedAs}
 use Rattle.model.specs.Values.{given}
 use Rattle.fields.proofs.Rest.{tag-start}
 
 module _ (at : Sizes → Tables) (own : Bytes) where
   -- ---------------------------------------------------------------- the name
 
-  pub name-absent : (there : Bool) → there ≡ false → (v : Bytes) (s : State) → Ready (at (s .sizes)) own (s .own)
-      → EndedAs at own (Done s) (nameValue (given there v) (graphNow (at (s .sizes)) own (s .own)))
+  pub name-absent : (has : Bool) → has ≡ false → (v : Bytes) (s : State) → FittingState (at (s .sizes)) own (s .own)
+      → EndedAs at own (Done s) (nameValue (given has v) (graphNow (at (s .sizes)) own (s .own)))
   unfolding nameValue
-  name-absent there e v s h = rw e (record { same = refl; ready = h })
+  name-absent has e v s h = rw e (record { same = refl; fitting = h })
 
-  module _ (there : Bool) (e : there ≡ true) (v : Bytes) (g : GraphName) (k : FieldTaken) (a : TakenAs at own k (judged (withName v g))) where
-    pub name-took : (s : State) → k ≡ Took s → EndedAs at own (Done s) (nameValue (given there v) g)
+  module _ (has : Bool) (e : has ≡ true) (v : Bytes) (g : GraphName) (k : FieldTaken) (a : TakenAs at own k (judged (withName v g))) where
+    pub name-took : (s : State) → k ≡ Took s → EndedAs at own (Done s) (nameValue (given has v) g)
     unfolding nameValue
     name-took s d = rw (e, ← a .same, d) (record {
       same = refl;
-      ready = subst (λ (x : FieldTaken). ReadyAfter at own x) d (a .ready);
+      fitting = subst (λ (x : FieldTaken). FittingAfter at own x) d (a .fitting);
     })
 
-    pub name-wrong : (n : ℕ) → k ≡ Wrong n → EndedAs at own (Refused n 0 0 0) (nameValue (given there v) g)
+    pub name-wrong : (n : ℕ) → k ≡ Wrong n → (q : Refusal) → refusalGiven q ≡ unplaced n → EndedAs at own (Refused q) (nameValue (given has v) g)
     unfolding nameValue
-    name-wrong n d = rw (e, ← a .same, d) (go (ltb 10 n))
-      where
-        go : (b : Bool) → EndedAs at own (Refused n 0 0 0) (refused (record {
-          number = n;
-          line = 0;
-          start = cond b 0 0;
-          size = cond b 0 0;
-        }))
-        go true = record { same = refl; ready = tt }
-        go false = record { same = refl; ready = tt }
+    name-wrong n d q m = rw (e, ← a .same, d) (record { same = ap refused m; fitting = tt })
 
 -- ------------------------------------------------------------------ a tag of relations
 
-pub tag-absent : (at : Sizes → Tables) (own : Bytes) (k : Kind) (there : Bool) → there ≡ false → (v : Bytes) (r : Ended) → ReadyAtEnd at own r
-    → EndedAs at own r (afterReading (readingOf at own r) (tagValue (tagNumber k) (addTo k) (given there v)))
+pub tag-absent : (at : Sizes → Tables) (own : Bytes) (k : Kind) (has : Bool) → has ≡ false → (v : Bytes) (r : Ended) → FittingAtEnd at own r
+    → EndedAs at own r (afterReading (readingOf at own r) (tagValue (tagNumber k) (addTo k) (given has v)))
 unfolding tagValue
-tag-absent at own k there e v (Done s) h = rw e (record { same = refl; ready = h })
-tag-absent at own k there e v (Refused number line start size) h = record { same = refl; ready = tt }
+tag-absent at own k has e v (Done s) h = rw e (record { same = refl; fitting = h })
+tag-absent at own k has e v (Refused q) h = record { same = refl; fitting = tt }
 
-pub tag-refused : (at at′ : Sizes → Tables) (own own′ : Bytes) (f : GraphName → Reading) (r : Ended) (number line start size : ℕ) → r ≡ Refused number line start size
-    → EndedAs at′ own′ (Refused number line start size) (afterReading (readingOf at own r) f)
-tag-refused at at′ own own′ f r number line start size e = rw e (record { same = refl; ready = tt })
+pub tag-refused : (at at′ : Sizes → Tables) (own own′ : Bytes) (f : GraphName → Reading) (r : Ended) (q : Refusal) → r ≡ Refused q
+    → EndedAs at′ own′ (Refused q) (afterReading (readingOf at own r) f)
+tag-refused at at′ own own′ f r q e = rw e (record { same = refl; fitting = tt })
 
-pub tag-read : (at at′ : Sizes → Tables) (own own′ : Bytes) (k : Kind) (there : Bool) → there ≡ true → (v : Bytes) (r : Ended) (s : State) → r ≡ Done s → (q : Ended)
+pub tag-read : (at at′ : Sizes → Tables) (own own′ : Bytes) (k : Kind) (has : Bool) → has ≡ true → (v : Bytes) (r : Ended) (s : State) → r ≡ Done s → (q : Ended)
     → EndedAs at′ own′ q (restOf (Tag k) v 0 (firstStop (Tag k) v) 0 (graphNow (at (s .sizes)) own (s .own)))
-    → EndedAs at′ own′ q (afterReading (readingOf at own r) (tagValue (tagNumber k) (addTo k) (given there v)))
-tag-read at at′ own own′ k there e v r s d q h = rw (d, e, tag-start k v (graphNow (at (s .sizes)) own (s .own))) h
+    → EndedAs at′ own′ q (afterReading (readingOf at own r) (tagValue (tagNumber k) (addTo k) (given has v)))
+tag-read at at′ own own′ k has e v r s d q h = rw (d, e, tag-start k v (graphNow (at (s .sizes)) own (s .own))) h
 
 -- ------------------------------------------------------------------ all three
 

@@ -1,21 +1,18 @@
 // The end of a reading: the record stored, or the empty one left with the refusal.
-use crate::reading::Ended;
+use crate::ending::Ended;
+use crate::ending::Refusal;
 ghost use mathlib.Core.Path.{_≡_};
 ghost use lib.ListN.{length};
 ghost use Rattle.model.specs.Outcome.{outcomeOf, refusalOf};
+ghost use Rattle.model.specs.Layout.{recordLength};
 ghost use Rattle.tables.specs.Tables.{tables};
-ghost use Rattle.parse.specs.Endings.{readingOf, ReadyAtEnd};
-ghost use Rattle.parse.specs.Answers.{refusalIn};
+ghost use Rattle.parse.specs.Endings.{readingOf, FittingAtEnd};
+ghost use Rattle.parse.specs.Refusals.{refusalIn};
 
-// What a reading answers: done, or the refusal's number, line and quoted part.
+// What a reading answers: done, or its refusal.
 pub enum Answer {
     Done,
-    Refused {
-        number: usize,
-        line: usize,
-        start: usize,
-        size: usize,
-    },
+    Refused(Refusal),
 }
 
 // Ends a reading: writes the record, or the empty one.
@@ -28,7 +25,7 @@ pub(crate) fn finish(
     ended: Ended,
     buffer: &mut [u8],
 ) -> Answer
-    requires { ⌜ ReadyAtEnd (tables (now refs) (now subs) (now trans) (now pool)) (now own) ended × (length (now buffer) ≡ 32768) ⌝ }
+    requires { ⌜ FittingAtEnd (tables (now refs) (now subs) (now trans) (now pool)) (now own) ended × (length (now buffer) ≡ recordLength) ⌝ }
     ensures { λ r. ⌜ (refusalIn r ≡ refusalOf (readingOf (tables (now (refs .entry)) (now (subs .entry)) (now (trans .entry)) (now (pool .entry))) (now (own .entry)) ended)) × (now (buffer .exit) ≡ outcomeOf (readingOf (tables (now (refs .entry)) (now (subs .entry)) (now (trans .entry)) (now (pool .entry))) (now (own .entry)) ended) .buffer) ⌝ }
 {
     match ended {
@@ -36,19 +33,9 @@ pub(crate) fn finish(
             intake::store_state(refs, subs, trans, pool, own, state, buffer);
             Answer::Done
         }
-        Ended::Refused {
-            number,
-            line,
-            start,
-            size,
-        } => {
+        Ended::Refused(refusal) => {
             tables::clear(buffer, 0);
-            Answer::Refused {
-                number,
-                line,
-                start,
-                size,
-            }
+            Answer::Refused(refusal)
         }
     }
 }

@@ -1,4 +1,5 @@
 // Reading header lines.
+use crate::ending::refuse_unplaced;
 use crate::finish::Answer;
 use crate::finish::finish;
 use crate::reading::read_text;
@@ -8,22 +9,18 @@ use intake::name_table;
 use intake::own_buffer;
 use intake::pair_table;
 use intake::pool;
+use record::RECORD_LENGTH;
 ghost use mathlib.Core.Path.{_≡_};
 ghost use Rattle.model.specs.Reading.{fromHeaderLines};
 ghost use Rattle.model.specs.Outcome.{readInto, refusalInto};
-ghost use Rattle.parse.specs.Answers.{refusalIn};
+ghost use Rattle.parse.specs.Refusals.{refusalIn};
 
 // Reads header lines into a record buffer.
 pub fn from_header_lines(t: &[u8], buffer: &mut [u8]) -> Answer
     ensures { λ r. ⌜ (refusalIn r ≡ refusalInto (fromHeaderLines (now (t .entry))) (now (buffer .entry))) × (now (buffer .exit) ≡ readInto (now (t .entry)) (now (buffer .entry)) .buffer) ⌝ }
 {
-    if buffer.len() != 32768 {
-        return Answer::Refused {
-            number: 15,
-            line: 0,
-            start: 0,
-            size: 0,
-        };
+    if buffer.len() != RECORD_LENGTH {
+        return Answer::Refused(refuse_unplaced(15));
     }
     let mut refs = name_table();
     let mut subs = pair_table();

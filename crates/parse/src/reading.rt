@@ -1,4 +1,6 @@
 // A text read field by field into the working tables.
+use crate::ending::Ended;
+use crate::ending::refuse;
 use fields::Source;
 use fields::Tally;
 use fields::next;
@@ -8,39 +10,8 @@ use intake::take_field;
 ghost use mathlib.Core.Path.{_≡_};
 ghost use Rattle.tables.specs.Tables.{tables};
 ghost use Rattle.fields.specs.Rest.{restOf};
-ghost use Rattle.intake.specs.State.{graphNow, Ready};
-ghost use Rattle.parse.specs.Endings.{firstStop, refusedAs, EndedAs};
-
-// How a reading ends: with what it has then, or with a refusal's number, line and quoted part.
-pub(crate) enum Ended {
-    Done(State),
-    Refused {
-        number: usize,
-        line: usize,
-        start: usize,
-        size: usize,
-    },
-}
-
-// A refusal: numbers over 10 quote nothing.
-fn refusal(number: usize, line: usize, start: usize, size: usize) -> Ended
-    ensures { λ r. ⌜ r ≡ refusedAs number line start size ⌝ }
-{
-    if 10 < number {
-        return Ended::Refused {
-            number,
-            line,
-            start: 0,
-            size: 0,
-        };
-    }
-    Ended::Refused {
-        number,
-        line,
-        start,
-        size,
-    }
-}
+ghost use Rattle.intake.specs.State.{graphNow, FittingState};
+ghost use Rattle.parse.specs.Endings.{firstStop, EndedAs};
 
 // Where the first part of a text stops: header lines begin with a line, a tag with a relation.
 fn first_stop(source: Source, t: &[u8]) -> usize
@@ -63,7 +34,7 @@ pub(crate) fn read_text(
     own: &mut [u8],
     begun: State,
 ) -> Ended
-    requires { ⌜ Ready (tables (now refs) (now subs) (now trans) (now pool) (begun .sizes)) (now own) (begun .own) ⌝ }
+    requires { ⌜ FittingState (tables (now refs) (now subs) (now trans) (now pool) (begun .sizes)) (now own) (begun .own) ⌝ }
     ensures { λ r. ⌜ EndedAs (tables (now (refs .exit)) (now (subs .exit)) (now (trans .exit)) (now (pool .exit))) (now (own .exit)) r (restOf source (now (t .entry)) 0 (firstStop source (now (t .entry))) 0 (graphNow (tables (now (refs .entry)) (now (subs .entry)) (now (trans .entry)) (now (pool .entry)) (begun .sizes)) (now (own .entry)) (begun .own))) ⌝ }
 {
     let mut state = begun;
@@ -74,11 +45,12 @@ pub(crate) fn read_text(
         fields: 0,
     };
     while at < stop || at < t.len() {
-        let field = next(source, t, stop, at, tally);
+        let read = next(source, t, stop, at, tally);
+        let field = read.field;
         let start = field.start;
         let size = field.size;
         let content = field.content;
-        tally = field.tally;
+        tally = read.tally;
         match take_field(
             refs,
             subs,
@@ -90,12 +62,12 @@ pub(crate) fn read_text(
             content,
         ) {
             FieldTaken::Wrong(number) => {
-                return refusal(number, tally.lines, start, size);
+                return Ended::Refused(refuse(number, field, tally));
             }
             FieldTaken::Took(s) => {
                 state = s;
                 stop = field.stop;
-                at = field.at;
+                at = field.next;
             }
         }
     }

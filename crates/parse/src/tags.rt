@@ -1,7 +1,8 @@
 // Reading the values of the three tags: name, subgraph, translation.
+use crate::ending::Ended;
+use crate::ending::refuse_unplaced;
 use crate::finish::Answer;
 use crate::finish::finish;
-use crate::reading::Ended;
 use crate::reading::read_text;
 use fields::Content;
 use fields::Source;
@@ -14,19 +15,20 @@ use intake::pair_table;
 use intake::pool;
 use intake::take_field;
 use model::Kind;
+use record::RECORD_LENGTH;
 ghost use mathlib.Core.Path.{_≡_};
 ghost use Rattle.model.specs.Reading.{afterReading, nameValue, addTo, tagValue, fromTags};
 ghost use Rattle.model.specs.Outcome.{readTagsInto, refusalInto};
 ghost use Rattle.tables.specs.Tables.{tables};
 ghost use Rattle.fields.specs.Fields.{tagNumber};
-ghost use Rattle.intake.specs.State.{Lengths, graphNow, Ready};
-ghost use Rattle.parse.specs.Endings.{readingOf, ReadyAtEnd, EndedAs};
+ghost use Rattle.intake.specs.State.{Lengths, graphNow, FittingState};
+ghost use Rattle.parse.specs.Endings.{readingOf, FittingAtEnd, EndedAs};
 ghost use Rattle.model.specs.Values.{given};
-ghost use Rattle.parse.specs.Answers.{refusalIn};
+ghost use Rattle.parse.specs.Refusals.{refusalIn};
 
 // The name's tag, if it is there.
 fn read_name(
-    there: bool,
+    has_name: bool,
     name: &[u8],
     refs: &mut [u32],
     subs: &mut [u32],
@@ -35,19 +37,14 @@ fn read_name(
     own: &mut [u8],
     begun: State,
 ) -> Ended
-    requires { ⌜ Ready (tables (now refs) (now subs) (now trans) (now pool) (begun .sizes)) (now own) (begun .own) ⌝ }
-    ensures { λ r. ⌜ EndedAs (tables (now (refs .exit)) (now (subs .exit)) (now (trans .exit)) (now (pool .exit))) (now (own .exit)) r (nameValue (given there (now (name .entry))) (graphNow (tables (now (refs .entry)) (now (subs .entry)) (now (trans .entry)) (now (pool .entry)) (begun .sizes)) (now (own .entry)) (begun .own))) ⌝ }
+    requires { ⌜ FittingState (tables (now refs) (now subs) (now trans) (now pool) (begun .sizes)) (now own) (begun .own) ⌝ }
+    ensures { λ r. ⌜ EndedAs (tables (now (refs .exit)) (now (subs .exit)) (now (trans .exit)) (now (pool .exit))) (now (own .exit)) r (nameValue (given «has_name» (now (name .entry))) (graphNow (tables (now (refs .entry)) (now (subs .entry)) (now (trans .entry)) (now (pool .entry)) (begun .sizes)) (now (own .entry)) (begun .own))) ⌝ }
 {
-    if !there {
+    if !has_name {
         return Ended::Done(begun);
     }
     match take_field(refs, subs, trans, pool, own, begun, name, Content::Name(0)) {
-        FieldTaken::Wrong(number) => Ended::Refused {
-            number,
-            line: 0,
-            start: 0,
-            size: 0,
-        },
+        FieldTaken::Wrong(number) => Ended::Refused(refuse_unplaced(number)),
         FieldTaken::Took(state) => Ended::Done(state),
     }
 }
@@ -55,7 +52,7 @@ fn read_name(
 // The tag of a kind of relation, if it is there, after a reading that has ended.
 fn read_tag(
     kind: Kind,
-    there: bool,
+    has_value: bool,
     value: &[u8],
     refs: &mut [u32],
     subs: &mut [u32],
@@ -64,10 +61,10 @@ fn read_tag(
     own: &mut [u8],
     ended: Ended,
 ) -> Ended
-    requires { ⌜ ReadyAtEnd (tables (now refs) (now subs) (now trans) (now pool)) (now own) ended ⌝ }
-    ensures { λ r. ⌜ EndedAs (tables (now (refs .exit)) (now (subs .exit)) (now (trans .exit)) (now (pool .exit))) (now (own .exit)) r (afterReading (readingOf (tables (now (refs .entry)) (now (subs .entry)) (now (trans .entry)) (now (pool .entry))) (now (own .entry)) ended) (tagValue (tagNumber kind) (addTo kind) (given there (now (value .entry))))) ⌝ }
+    requires { ⌜ FittingAtEnd (tables (now refs) (now subs) (now trans) (now pool)) (now own) ended ⌝ }
+    ensures { λ r. ⌜ EndedAs (tables (now (refs .exit)) (now (subs .exit)) (now (trans .exit)) (now (pool .exit))) (now (own .exit)) r (afterReading (readingOf (tables (now (refs .entry)) (now (subs .entry)) (now (trans .entry)) (now (pool .entry))) (now (own .entry)) ended) (tagValue (tagNumber kind) (addTo kind) (given «has_value» (now (value .entry))))) ⌝ }
 {
-    if !there {
+    if !has_value {
         return ended;
     }
     match ended {
@@ -81,17 +78,7 @@ fn read_tag(
             own,
             state,
         ),
-        Ended::Refused {
-            number,
-            line,
-            start,
-            size,
-        } => Ended::Refused {
-            number,
-            line,
-            start,
-            size,
-        },
+        Ended::Refused(refusal) => Ended::Refused(refusal),
     }
 }
 
@@ -112,8 +99,8 @@ fn read_tags(
     requires { ⌜ Lengths (now refs) (now subs) (now trans) (now pool) (now own) ⌝ }
     ensures { λ r. ⌜ EndedAs (tables (now (refs .exit)) (now (subs .exit)) (now (trans .exit)) (now (pool .exit))) (now (own .exit)) r (fromTags (given «has_name» (now (name .entry))) (given «has_subgraph» (now (subgraph .entry))) (given «has_translation» (now (translation .entry)))) ⌝ }
 {
-    let named = read_name(has_name, name, refs, subs, trans, pool, own, begin());
-    let first = read_tag(
+    let after_name = read_name(has_name, name, refs, subs, trans, pool, own, begin());
+    let after_subgraph = read_tag(
         Kind::Subgraph,
         has_subgraph,
         subgraph,
@@ -122,7 +109,7 @@ fn read_tags(
         trans,
         pool,
         own,
-        named,
+        after_name,
     );
     read_tag(
         Kind::Translation,
@@ -133,7 +120,7 @@ fn read_tags(
         trans,
         pool,
         own,
-        first,
+        after_subgraph,
     )
 }
 
@@ -149,13 +136,8 @@ pub fn from_tags(
 ) -> Answer
     ensures { λ r. ⌜ (refusalIn r ≡ refusalInto (fromTags (given «has_name» (now (name .entry))) (given «has_subgraph» (now (subgraph .entry))) (given «has_translation» (now (translation .entry)))) (now (buffer .entry))) × (now (buffer .exit) ≡ readTagsInto (given «has_name» (now (name .entry))) (given «has_subgraph» (now (subgraph .entry))) (given «has_translation» (now (translation .entry))) (now (buffer .entry)) .buffer) ⌝ }
 {
-    if buffer.len() != 32768 {
-        return Answer::Refused {
-            number: 15,
-            line: 0,
-            start: 0,
-            size: 0,
-        };
+    if buffer.len() != RECORD_LENGTH {
+        return Answer::Refused(refuse_unplaced(15));
     }
     let mut refs = name_table();
     let mut subs = pair_table();

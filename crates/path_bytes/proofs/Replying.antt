@@ -14,7 +14,7 @@ use Rattle.path_bytes.specs.declared.Reply.the-variants.{Refused, No, Ye
 use Rattle.paths.specs.declared.Place.{Place}
 use Rattle.paths.specs.declared.Place.the-variants.{Found, NotFound}
 use Rattle.paths.specs.Tables.{Graph, Holds}
-use Rattle.paths.specs.Queue.{queued, Room, Searchable, Reached, Kinds, Told, walk}
+use Rattle.paths.specs.Queue.{queued, Room, Searchable, Reached, Kinds, SearchedRight, walk}
 use Rattle.union.specs.Names.{Names, nameOf}
 use Rattle.path_bytes.specs.Written.{pathBack, startName, Readback}
 use Rattle.path_bytes.specs.Replies.{Askable, RepliesRight}
@@ -32,18 +32,18 @@ searchable ns G n a b nodes parents kinds places q r = record {
 }
 
 module _ (ns : Names) (G : Graph) (n a b : ℕ) (q : Askable ns G n a b) (size : ℕ) (is : size ≡ n) where
-  pub reply-no : (nodes parents kinds : List ℕ) (out : Bytes) (p : Place) → Told G size a b nodes parents kinds p → p ≡ NotFound → RepliesRight ns G n a b out No out
+  pub reply-no : (nodes parents kinds : List ℕ) (out : Bytes) (p : Place) → SearchedRight G size a b nodes parents kinds p → p ≡ NotFound → RepliesRight ns G n a b out No out
   reply-no nodes parents kinds out p t e rs holds =
       let f : bestPath rs (nameOf ns a) (nameOf ns b) ≡ none = rw e at t (nameOf ns) rs (rw is holds) in
       rw f (refl, refl)
 
   -- what was found, and what is lent of it
-  module _ (ys ps ks nodes parents kinds : List ℕ) (j : ℕ) (p : Place) (t : Told G size a b ys ps ks p) (at-j : p ≡ Found j) (en : nodes ≡ ys) (ep : parents ≡ ps) (ek : kinds ≡ ks) where
-    told : Told G size a b ys ps ks (Found j)
-    told = rw at-j at t
+  module _ (ys ps ks nodes parents kinds : List ℕ) (j : ℕ) (p : Place) (t : SearchedRight G size a b ys ps ks p) (at-j : p ≡ Found j) (en : nodes ≡ ys) (ep : parents ≡ ps) (ek : kinds ≡ ks) where
+    right : SearchedRight G size a b ys ps ks (Found j)
+    right = rw at-j at t
 
     reached : Reached n a b ys ps ks j
-    reached = rw is at (told .0)
+    reached = rw is at (right .0)
 
     pub found-back : length ys < 65536 → Readback ns nodes parents j × Kinds kinds j
     found-back l = rw (en, ep, ek) (
@@ -60,7 +60,7 @@ module _ (ns : Names) (G : Graph) (n a b : ℕ) (q : Askable ns G n a b) (size :
 
     answer-is : (rs : Relations) → Holds G n (nameOf ns) rs → answered (nameOf ns a) (bestPath rs (nameOf ns a) (nameOf ns b)) ≡ found bytes
     answer-is rs holds =
-        let e : bestPath rs (nameOf ns a) (nameOf ns b) ≡ some (walk (nameOf ns) ys ps ks j j) = told .1 (nameOf ns) rs (rw is holds) in
+        let e : bestPath rs (nameOf ns a) (nameOf ns b) ≡ some (walk (nameOf ns) ys ps ks j j) = right .1 (nameOf ns) rs (rw is holds) in
         let f : getD ys 0 0 ≡ a = reached .first in
         rw (e, en, ep, ek, f)
 

@@ -1,5 +1,4 @@
 -- What a path question gives, beside the definitions of `model`: the case of its reply, and what the output then holds.
--- Assumes nothing.
 use mathlib.Core.Path.{_≡_}
 use Prim.Native.Nat.{ℕ, _<_}
 use lib.ListN.{length}

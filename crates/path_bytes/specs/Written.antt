@@ -1,4 +1,4 @@
--- The bytes of a path, read back from the places of a search's queue. Assumes nothing.
+-- The bytes of a path, read back from the places of a search's queue.
 use mathlib.Core.Path.{_≡_}
 use mathlib.Core.Bool.{Bool}
 use mathlib.Core.List.{List, [], _∷_, _++_}

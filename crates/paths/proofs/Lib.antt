@@ -1,3 +1,4 @@
+-- The order of paths, the first of them, and a breadth-first search as what holds of it all along.
 pub mod PathOrder
 pub mod Leaving
 pub mod First

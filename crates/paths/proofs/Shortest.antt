@@ -33,16 +33,16 @@ names-apart name size order i j l m e = go (decLt i j) (decLt j i)
     go (no q) (no p) = omega arith
 
 module _ (G : Graph) (size : ℕ) (name : ℕ → Bytes) (a : ℕ) (r : Relations) (holds : Holds G size name r)
-    (node : ℕ → ℕ) (chain : ℕ → List Step) (n : ℕ) (Done : Progress) (t : Tree G size name a r node chain n Done)
+    (node : ℕ → ℕ) (steps : ℕ → List Step) (n : ℕ) (Done : Progress) (t : Tree G size name a r node steps n Done)
     (h : ℕ) (all : (p : ℕ) (k : Kind) (e : ℕ) → p < h → Done p k e) where
   -- a path to v: found before place h by one that is no later, or the path to place h is no later
   abbrev Reach : Bytes → List Step → Type 0
-  Reach v ss = ((j : ℕ) × (j < n) × (j < h) × (name (node j) ≡ v) × NotLater (chain j) ss) ⊎ ((h < n) × NotLater (chain h) ss)
+  Reach v ss = ((j : ℕ) × (j < n) × (j < h) × (name (node j) ≡ v) × NotLater (steps j) ss) ⊎ ((h < n) × NotLater (steps h) ss)
 
-  in-order : (i j : ℕ) → i ≤ j → j < n → NotLater (chain i) (chain j)
-  in-order i j l m = ⊎-elim (λ (e : i ≡ j). inl (ap chain (sym e))) (λ (o : i < j). inr (t .order i j o m)) (eq-or-lt-of-le l)
+  in-order : (i j : ℕ) → i ≤ j → j < n → NotLater (steps i) (steps j)
+  in-order i j l m = ⊎-elim (λ (e : i ≡ j). inl (ap steps (sym e))) (λ (o : i < j). inr (t .order i j o m)) (eq-or-lt-of-le l)
 
-  reach : (rest ss : List Step) (j : ℕ) (v : Bytes) → j < n → j < h → NotLater (chain j) ss → IsPath (related r) (name (node j)) rest v → Reach v (ss ++ rest)
+  reach : (rest ss : List Step) (j : ℕ) (v : Bytes) → j < n → j < h → NotLater (steps j) ss → IsPath (related r) (name (node j)) rest v → Reach v (ss ++ rest)
   unfolding IsPath
   reach [] ss j v l m no-later p = inl (j, l, m, p, rw append-nil no-later)
   reach (s ∷ rest) ss j v l m no-later p = go (λ i. reach rest (ss ++ (s ∷ [])) i v) (decLt (f .j) h)
@@ -50,23 +50,23 @@ module _ (G : Graph) (size : ℕ) (name : ℕ → Bytes) (a : ℕ) (r : Relation
       w : (e : ℕ) × Leaves (edgesOf G (s .kind)) (node j) e × (name (target G (s .kind) e) ≡ s .next)
       w = holds .back (s .kind) (node j) (s .next) (t .inside j l) (p .0)
 
-      f : Met G size name a node chain n j (s .kind) (w .0)
+      f : Met G size name a node steps n j (s .kind) (w .0)
       f = t .closed j (s .kind) (w .0) l (all j (s .kind) (w .0) m) (w .1)
 
       is-step : stepAt G name (s .kind) (w .0) ≡ s
       is-step = λ i. record { kind = s .kind; next = w .2 i }
 
-      step-later : NotLater (chain (f .j)) (ss ++ (s ∷ []))
+      step-later : NotLater (steps (f .j)) (ss ++ (s ∷ []))
       step-later =
-          not-later-trans (chain (f .j)) (chain j ++ (s ∷ [])) (ss ++ (s ∷ []))
-          (rw is-step at (f .no-later)) (not-later-snoc (chain j) ss s no-later)
+          not-later-trans (steps (f .j)) (steps j ++ (s ∷ [])) (ss ++ (s ∷ []))
+          (rw is-step at (f .no-later)) (not-later-snoc (steps j) ss s no-later)
 
-      go : ((i : ℕ) → i < n → i < h → NotLater (chain i) (ss ++ (s ∷ [])) → IsPath (related r) (name (node i)) rest v → Reach v (ss ++ (s ∷ []) ++ rest))
+      go : ((i : ℕ) → i < n → i < h → NotLater (steps i) (ss ++ (s ∷ [])) → IsPath (related r) (name (node i)) rest v → Reach v (ss ++ (s ∷ []) ++ rest))
           → Dec (f .j < h) → Reach v (ss ++ (s ∷ rest))
       go further (yes q) = rw append-snoc at (further (f .j) (f .lt) q step-later (rw (f .is, w .2) (p .1)))
       go further (no q) =
           let z : f .j < n = f .lt in
-          inr (omega arith, rw append-snoc at (not-later-append (chain h) (ss ++ (s ∷ [])) rest (not-later-trans (chain h) (chain (f .j)) (ss ++ (s ∷ [])) (in-order h (f .j) (omega arith) z) step-later)))
+          inr (omega arith, rw append-snoc at (not-later-append (steps h) (ss ++ (s ∷ [])) rest (not-later-trans (steps h) (steps (f .j)) (ss ++ (s ∷ [])) (in-order h (f .j) (omega arith) z) step-later)))
 
   reached : (ss : List Step) (v : Bytes) → IsPath (related r) (name a) ss v → Reach v ss
   reached ss v p = go (decLt 0 h)
@@ -75,10 +75,10 @@ module _ (G : Graph) (size : ℕ) (name : ℕ → Bytes) (a : ℕ) (r : Relation
       go (yes q) = reach ss [] 0 v (t .some) q (inl (sym (t .start))) (rw (t .root) p)
       go (no q) = let z : h ≡ 0 = omega arith in inr (rw z (t .some), rw (z, t .start) (not-later-append [] [] ss (inl refl)))
 
-  pub tree-best : h < n → ((j : ℕ) → j < n → node j ≡ node h → j ≡ h) → Best (related r) (name a) (chain h) (name (node h))
+  pub tree-best : h < n → ((j : ℕ) → j < n → node j ≡ node h → j ≡ h) → Best (related r) (name a) (steps h) (name (node h))
   tree-best l once = record { path = t .path h l; first = λ ts p. go ts (reached ts (name (node h)) p) }
     where
-      go : (ts : List Step) → Reach (name (node h)) ts → NotLater (chain h) ts
+      go : (ts : List Step) → Reach (name (node h)) ts → NotLater (steps h) ts
       go ts (inl f) =
           let e : node (f .0) ≡ node h = names-apart name size (holds .order) (node (f .0)) (node h) (t .inside (f .0) (f .1)) (t .inside h l) (f .3) in
           absurd (omega (arith, once (f .0) (f .1) e, f .2))

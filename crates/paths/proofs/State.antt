@@ -26,7 +26,7 @@ placeOf q v = getD (q .places) v 0
 
 -- which nodes are found, and where
 pub record Places (q : Queue) : Type 0 where
-  pub seat : (j : ℕ) → j < q .count → placeOf q (nodeAt q j) ≡ j + 1
+  pub at-place : (j : ℕ) → j < q .count → placeOf q (nodeAt q j) ≡ j + 1
   pub inside : (j : ℕ) → j < q .count → nodeAt q j < length (q .places)
   pub low : (v : ℕ) → v < length (q .places) → placeOf q v ≤ q .count
   pub back : (v : ℕ) → v < length (q .places) → 0 < placeOf q v → nodeAt q (placeOf q v - 1) ≡ v
@@ -55,7 +55,7 @@ module _ (nodes parents kinds places : List ℕ) (a : ℕ) (room : Room (queued 
 
   start-places : Places (queued (set nodes 0 a) parents kinds (set places a 1) 1)
   start-places = record {
-    seat = λ j l. let z : j ≡ 0 = omega arith in rw (z, first, placed);
+    at-place = λ j l. let z : j ≡ 0 = omega arith in rw (z, first, placed);
     inside = λ j l. let z : j ≡ 0 = omega arith in rw (z, first, length-set places a 1) small;
     low = λ v l. at-low v (rw length-set at l) (ℕ-discrete v a);
     back = λ v l p. at-back v (rw length-set at l) p (ℕ-discrete v a);
@@ -162,12 +162,12 @@ module _ (G : Graph) (a : ℕ) (q : Queue) where
 
       -- no place has the node yet
       fresh : (j : ℕ) → j < q .count → nodeAt q j ≡ target G K E → ⊥
-      fresh j l e = omega (arith, s .places .seat j l, z, ap (placeOf q) e)
+      fresh j l e = omega (arith, s .places .at-place j l, z, ap (placeOf q) e)
 
       new-places : Places q′
       new-places = record {
-        seat = λ j l. ⊎-elim
-            (λ (o : j < q .count). rw (nodes-old j o, placed-old (nodeAt q j) (fresh j o)) (s .places .seat j o))
+        at-place = λ j l. ⊎-elim
+            (λ (o : j < q .count). rw (nodes-old j o, placed-old (nodeAt q j) (fresh j o)) (s .places .at-place j o))
             (λ (e : j ≡ q .count). rw (e, nodes-new, placed-new))
             (below j (q .count) l);
         inside = λ j l. rw (length-set (q .places) (target G K E) (q .count + 1)) (⊎-elim

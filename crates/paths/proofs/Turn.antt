@@ -15,7 +15,7 @@ use Rattle.model.specs.Bytes.{Bytes}
 use Rattle.model.specs.Path.{Relations, kindNumber, bestPath}
 use Rattle.paths.specs.declared.Place.the-variants.{Found, NotFound}
 use Rattle.paths.specs.Tables.{related, nexts, Made, Graph, edgesOf, target, Holds}
-use Rattle.paths.specs.Queue.{Queue, queued, visit, visitAll, Room, Ready, Told}
+use Rattle.paths.specs.Queue.{Queue, queued, visit, visitAll, Room, Ready, SearchedRight}
 use Rattle.paths.proofs.Right.{RightPath, right-unique, bestPath-right}
 use Rattle.paths.proofs.Visit.{visit-new, visit-old, slice-none}
 use Rattle.paths.proofs.Shortest.{tree-best, tree-none}
@@ -25,22 +25,22 @@ use Rattle.paths.proofs.State.{nodeAt, placeOf, State, first, state-sta
 
 -- ------------------------------------------------------------------ what a visit keeps
 
-pub record Kept (q q′ : Queue) : Type 0 where
+pub record Extends (q q′ : Queue) : Type 0 where
   pub size : length (q′ .places) ≡ length (q .places)
   pub count : q .count ≤ q′ .count
   pub nodes : (j : ℕ) → j < q .count → nodeAt q′ j ≡ nodeAt q j
 
-kept-trans : (q q′ q″ : Queue) → Kept q q′ → Kept q′ q″ → Kept q q″
+kept-trans : (q q′ q″ : Queue) → Extends q q′ → Extends q′ q″ → Extends q q″
 kept-trans q q′ q″ k l = record {
   size = l .size ∙ k .size;
   count = omega (arith, k .count, l .count);
   nodes = λ j m. l .nodes j (omega (arith, k .count)) ∙ k .nodes j m;
 }
 
-visit-kept : (k h : ℕ) (q : Queue) (w : ℕ) → Kept q (visit k h q w)
+visit-kept : (k h : ℕ) (q : Queue) (w : ℕ) → Extends q (visit k h q w)
 visit-kept k h q w = go (ℕ-discrete (placeOf q w) 0)
   where
-    go : Dec (placeOf q w ≡ 0) → Kept q (visit k h q w)
+    go : Dec (placeOf q w ≡ 0) → Extends q (visit k h q w)
     go (yes z) = rw (visit-new k h q w z) (record {
       size = length-set (q .places) w (q .count + 1);
       count = omega arith;
@@ -48,7 +48,7 @@ visit-kept k h q w = go (ℕ-discrete (placeOf q w) 0)
     })
     go (no z) = rw (visit-old k h q w z) (record { size = refl; count = omega arith; nodes = λ j l. refl })
 
-visits-kept : (k h : ℕ) (ws : List ℕ) (q : Queue) → Kept q (visitAll k h ws q)
+visits-kept : (k h : ℕ) (ws : List ℕ) (q : Queue) → Extends q (visitAll k h ws q)
 unfolding visitAll
 visits-kept k h [] q = record { size = refl; count = omega arith; nodes = λ j l. refl }
 visits-kept k h (w ∷ ws) q = kept-trans q (visit k h q w) (visitAll k h ws (visit k h q w)) (visit-kept k h q w) (visits-kept k h ws (visit k h q w))
@@ -124,10 +124,10 @@ module _ (G : Graph) (a b size : ℕ) (q : Queue) (h : ℕ) (s : Searching G a b
     abbrev onward : Queue
     onward = visitAll 1 h (nexts (G .translations) (nodeAt halfway h)) halfway
 
-    kept : Kept q halfway
+    kept : Extends q halfway
     kept = visits-kept 0 h (nexts (G .subgraphs) (nodeAt q h)) q
 
-    kept′ : Kept halfway onward
+    kept′ : Extends halfway onward
     kept′ = visits-kept 1 h (nexts (G .translations) (nodeAt halfway h)) halfway
 
     here′ : h < halfway .count
@@ -174,8 +174,8 @@ module _ (G : Graph) (a b size : ℕ) (q : Queue) (h : ℕ) (s : Searching G a b
   right : (name : ℕ → Bytes) (r : Relations) → Holds G size name r → RightPath (related r) (name a) (name b) (bestPath r (name a) (name b))
   right name r holds = bestPath-right r (holds .subgraphs) (holds .translations) (related r) (λ k n m. (λ x. x, λ x. x)) (name a) (name b)
 
-  pub told-found : h < q .count → nodeAt q h ≡ b → Told G size a b (q .nodes) (q .parents) (q .kinds) (Found h)
-  told-found here is = (
+  pub right-found : h < q .count → nodeAt q h ≡ b → SearchedRight G size a b (q .nodes) (q .parents) (q .kinds) (Found h)
+  right-found here is = (
     record {
       back = record {
         nodes-long = omega (arith, s .state .found, s .state .room .nodes);
@@ -197,10 +197,10 @@ module _ (G : Graph) (a b size : ℕ) (q : Queue) (h : ℕ) (s : Searching G a b
   )
     where
       once : (j : ℕ) → j < q .count → nodeAt q j ≡ nodeAt q h → j ≡ h
-      once j l e = omega (arith, s .state .places .seat j l, s .state .places .seat h here, ap (placeOf q) e)
+      once j l e = omega (arith, s .state .places .at-place j l, s .state .places .at-place h here, ap (placeOf q) e)
 
-  pub told-none : q .count ≤ h → b < size → Told G size a b (q .nodes) (q .parents) (q .kinds) NotFound
-  told-none over small = λ name r holds.
+  pub right-none : q .count ≤ h → b < size → SearchedRight G size a b (q .nodes) (q .parents) (q .kinds) NotFound
+  right-none over small = λ name r holds.
       let holds′ : Holds G (length (q .places)) name r = rw (s .size-is) holds in
       right-unique (related r) (name a) (name b) _ none (right name r holds)
       (tree-none G _ name a r holds′ (nodeAt q) _ (q .count) _ (s .state .tree name r holds′) h all-done over b (rw (s .size-is) small)

@@ -1,5 +1,5 @@
 -- The tables of a breadth-first search. By place in the order of finding: the node, the place that it was found from, and the
--- kind of the step to it. By node: its place plus 1, or 0 while it is not found. Assumes nothing.
+-- kind of the step to it. By node: its place plus 1, or 0 while it is not found.
 use mathlib.Core.Path.{_≡_}
 use mathlib.Core.Bool.{cond}
 use mathlib.Core.List.{List, [], _∷_, _++_}
@@ -97,9 +97,9 @@ pub record Reached (n a b : ℕ) (nodes parents kinds : List ℕ) (j : ℕ) : Ty
   pub last : getD nodes j 0 ≡ b
 
 -- what a search from a to b tells, whatever names the numbers stand for
-abbrev pub Told : Graph → ℕ → ℕ → ℕ → List ℕ → List ℕ → List ℕ → Place → Type 0
-Told G n a b nodes parents kinds NotFound =
+abbrev pub SearchedRight : Graph → ℕ → ℕ → ℕ → List ℕ → List ℕ → List ℕ → Place → Type 0
+SearchedRight G n a b nodes parents kinds NotFound =
     (name : ℕ → Bytes) (r : Relations) → Holds G n name r → bestPath r (name a) (name b) ≡ none
-Told G n a b nodes parents kinds (Found j) =
+SearchedRight G n a b nodes parents kinds (Found j) =
     Reached n a b nodes parents kinds j
     × ((name : ℕ → Bytes) (r : Relations) → Holds G n name r → bestPath r (name a) (name b) ≡ some (walk name nodes parents kinds j j))

@@ -1,5 +1,5 @@
 -- The relations of a question as tables of numbers. The nodes are the numbers of names, in the order of the names; for each kind
--- of relation a table has the numbers that its steps lead to, those of one node in a row. Assumes nothing.
+-- of relation a table has the numbers that its steps lead to, those of one node in a row.
 use mathlib.Core.Path.{_≡_}
 use mathlib.Core.List.{List, List·Memᴰ}
 use Prim.Native.Nat.{ℕ, _≤_, _<_}

@@ -4,7 +4,7 @@ ghost use mathlib.Core.Path.{_≡_};
 ghost use Prim.Native.Nat.{ℕ, _<_};
 ghost use lib.ListN.{length, getD};
 ghost use Rattle.paths.specs.Tables.{edges, graph, nexts, Made};
-ghost use Rattle.paths.specs.Queue.{queued, visitAll, Ready, Searchable, Told};
+ghost use Rattle.paths.specs.Queue.{queued, visitAll, Ready, Searchable, SearchedRight};
 
 // No node is found: every number of a table is 0.
 pub fn clear(places: &mut [u16])
@@ -71,7 +71,7 @@ pub fn search(
     places: &mut [u16],
 ) -> Place
     requires { ⌜ Searchable (graph (edges (now «sub_starts») (now «sub_ends») (now «sub_targets»)) (edges (now «trans_starts») (now «trans_ends») (now «trans_targets»))) a b (queued (now nodes) (now parents) (now kinds) (now places) 0) ⌝ }
-    ensures { λ r. ⌜ Told (graph (edges (now («sub_starts» .entry)) (now («sub_ends» .entry)) (now («sub_targets» .entry))) (edges (now («trans_starts» .entry)) (now («trans_ends» .entry)) (now («trans_targets» .entry)))) (length (now (places .entry))) a b (now (nodes .exit)) (now (parents .exit)) (now (kinds .exit)) r ⌝ }
+    ensures { λ r. ⌜ SearchedRight (graph (edges (now («sub_starts» .entry)) (now («sub_ends» .entry)) (now («sub_targets» .entry))) (edges (now («trans_starts» .entry)) (now («trans_ends» .entry)) (now («trans_targets» .entry)))) (length (now (places .entry))) a b (now (nodes .exit)) (now (parents .exit)) (now (kinds .exit)) r ⌝ }
 {
     clear(places);
     nodes[0] = a as u16;

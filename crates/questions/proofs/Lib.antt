@@ -1,2 +1,3 @@
+-- A question by its tests, and demand 3.
 pub mod Entry
 pub mod Demand

@@ -1,4 +1,4 @@
--- The question of either kind. Assumes nothing.
+-- The question of either kind.
 use mathlib.Core.Bool.{Bool, cond}
 use Prim.Native.Nat.{ℕ}
 use Rattle.model.specs.Bytes.{Bytes}

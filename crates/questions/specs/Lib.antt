@@ -1,1 +1,2 @@
+-- The question of either kind.
 pub mod Asked

@@ -12,7 +12,6 @@ use path_bytes::Reply;
 use record::fault_of_both;
 use record::own_place;
 use search::ask_named;
-ghost use mathlib.Core.Path.{_≡_};
 ghost use lib.ListN.{length};
 ghost use Rattle.model.specs.Outcome.{askSubgraph, askFull};
 ghost use Rattle.path_bytes.specs.Replies.{Replies};
@@ -114,9 +113,9 @@ fn ask_large<'a>(b: &'a [u8], c: &'a [u8], full: bool, out: &mut [u8]) -> Reply
 fn ask<'a>(b: &'a [u8], c: &'a [u8], full: bool, out: &mut [u8]) -> Reply
     ensures { λ r. ⌜ Replies (askOf full (now (b .entry)) (now (c .entry)) (length (now (out .entry)))) (now (out .entry)) r (now (out .exit)) ⌝ }
 {
-    let wrong = fault_of_both(b, c);
-    if wrong != 0 {
-        return Reply::Refused(wrong);
+    let number = fault_of_both(b, c);
+    if number != 0 {
+        return Reply::Refused(number);
     }
     if own_place(b) == 0 {
         return Reply::No;

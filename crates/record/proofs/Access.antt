@@ -12,9 +12,9 @@ use Rattle.model.specs.declared.Kind.the-variants.{Subgraph, Translation}
 use Rattle.model.specs.Bytes.{Bytes}
 use Rattle.model.specs.Numbers.{number}
 use Rattle.model.specs.Record.{Pair, GraphName, names}
-use Rattle.model.specs.Layout.{nameAt, pairsFrom, ownAt, shown, decode}
+use Rattle.model.specs.Layout.{bodyLength, bodyStart, countsLength, nameCount, ownNumber, recordLength, nameAt, pairsFrom, ownAt, shown, decode, bodiesAt, pairCount, tableAt}
 use Rattle.text.proofs.Places.{getD-member}
-use Rattle.record.specs.Test.{pairsAt, pairsOk, entriesOf, bodiesAt, namesOf, pairCount, tableAt}
+use Rattle.record.specs.Test.{pairsAt, pairsOk, entriesOf, namesOf}
 use Rattle.record.proofs.Words.{length-pairsAt, getD-pairsAt}
 use Rattle.record.proofs.Entries.{entry-within}
 use Rattle.record.proofs.Places.{under-pair}
@@ -51,23 +51,23 @@ module _ (b : Bytes) (g : GraphName) (e : decode b ≡ some g) where
       let h = decode-held b g e in
       ap names (sym (decode-shown b g e) ∙ shown-meaning b h) ∙ names-meaning (read b) (held-fits b h)
 
-  pub record-count : length (names g) ≡ number b 0
+  pub record-count : length (names g) ≡ nameCount b
   record-count = ap length record-names ∙ length-names b (decode-held b g e)
 
-  pub record-name : (i : ℕ) → i < number b 0 → getD (names g) i [] ≡ nameAt b i
+  pub record-name : (i : ℕ) → i < nameCount b → getD (names g) i [] ≡ nameAt b i
   record-name i k = rw record-names (sym (nameAt-names b (decode-held b g e) i k))
 
-  pub record-own : g .name ≡ ownAt b (number b 2)
+  pub record-own : g .name ≡ ownAt b (ownNumber b)
   unfolding shown
   record-own = ap (λ (h : GraphName). h .name) (sym (decode-shown b g e))
 
   -- a name's bytes lie within the buffer, and are few
-  pub name-within : (i : ℕ) → i < number b 0
-      → (bodiesAt b + number b (8 + 4 * i) + number b (8 + 4 * i + 2) ≤ 32768) × (number b (8 + 4 * i + 2) ≤ 256)
+  pub name-within : (i : ℕ) → i < nameCount b
+      → (bodiesAt b + bodyStart b i + bodyLength b i ≤ recordLength) × (bodyLength b i ≤ 256)
   name-within i k =
       let h = decode-held b g e in
-      let l = length-pairsAt (number b 0) (drop 8 b) in
-      let w = rw (getD-pairsAt (number b 0) 8 b i k) at (entry-within (entriesOf b) 0 i (h .row) (omega arith)) in
+      let l = length-pairsAt (nameCount b) (drop countsLength b) in
+      let w = rw (getD-pairsAt (nameCount b) 8 b i k) at (entry-within (entriesOf b) 0 i (h .row) (omega arith)) in
       (omega arith, w .2)
 
   -- ------------------------------------------------------------------ pairs
@@ -85,14 +85,14 @@ module _ (b : Bytes) (g : GraphName) (e : decode b ≡ some g) where
 
   -- a pair's places are places of names
   pub pair-within : (k : Kind) (i : ℕ) → i < pairCount k b
-      → (number b (tableAt k b + 4 * i) < number b 0) × (number b (tableAt k b + 4 * i + 2) < number b 0)
+      → (number b (tableAt k b + 4 * i) < nameCount b) × (number b (tableAt k b + 4 * i + 2) < nameCount b)
   pair-within k i h =
       let ps = pairsAt (pairCount k b) (drop (tableAt k b) b) in
-      let u = pairsOk-true (number b 0) ps .0 (kind-ok k) .0 in
+      let u = pairsOk-true (nameCount b) ps .0 (kind-ok k) .0 in
       let l = length-pairsAt (pairCount k b) (drop (tableAt k b) b) in
       let m = getD-member (0, 0) ps i (omega arith) in
-      rw (getD-pairsAt (pairCount k b) (tableAt k b) b i h) at (under-pair (number b 0) ps (getD ps i (0, 0)) u m)
+      rw (getD-pairsAt (pairCount k b) (tableAt k b) b i h) at (under-pair (nameCount b) ps (getD ps i (0, 0)) u m)
     where
-      kind-ok : (k : Kind) → pairsOk (number b 0) (pairsAt (pairCount k b) (drop (tableAt k b) b)) ≡ true
+      kind-ok : (k : Kind) → pairsOk (nameCount b) (pairsAt (pairCount k b) (drop (tableAt k b) b)) ≡ true
       kind-ok Subgraph = decode-held b g e .subgraph
       kind-ok Translation = decode-held b g e .translation

@@ -10,7 +10,7 @@ use lib.Dec.{leb, ltb, eqb}
 use borrow.Author.Tests.{eq-eqb, eqb-true, leb-true, le-leb, ltb-false, le-ltb}
 use Rattle.model.specs.Bytes.{Bytes}
 use Rattle.model.specs.Record.{anyLong, bodies}
-use Rattle.model.specs.Layout.{entries}
+use Rattle.model.specs.Layout.{recordLength, entries}
 use Rattle.text.proofs.Tests.{both-true, either-false}
 use Rattle.record.specs.Test.{bodyEnd, cut, Under}
 use Rattle.record.specs.Coded.{lePairs, spans}
@@ -58,7 +58,7 @@ under-spans start (n ∷ ns) h k =
 
 -- ------------------------------------------------------------------ from entries
 
-within : (t : Bool) (x : ℕ) → cond t x 32768 ≤ 22520 → (t ≡ true) × (x ≤ 22520)
+within : (t : Bool) (x : ℕ) → cond t x recordLength ≤ 22520 → (t ≡ true) × (x ≤ 22520)
 within true x h = (refl, h)
 within false x h = absurd (omega arith)
 

@@ -4,24 +4,26 @@ use mathlib.Core.Bool.{true}
 use Prim.Native.Nat.{_+_, _≤_}
 use lib.ListN.{length, drop}
 use borrow.Author.Tests.{leb-true, le-leb, eqb-true, eq-eqb}
+use Rattle.text.specs.Blocks.{allZero}
 use Rattle.model.specs.Bytes.{Bytes, compareBytes}
-use Rattle.model.specs.Numbers.{number}
 use Rattle.model.specs.Record.{ascends}
 use Rattle.text.proofs.Tests.{both-true}
-use Rattle.record.specs.Test.{bodyEnd, pairsOk, isUsed, every, zeros, entriesOf, subgraphOf, translationOf, bodiesAt, namesOf, isRecord}
+use Rattle.record.specs.Test.{bodyEnd, pairsOk, isUsed, every, entriesOf, subgraphOf, translationOf, namesOf, isRecord}
+use Rattle.model.specs.Layout.{nameCount, ownNumber, pairCount, recordLength, bodiesAt}
+use Rattle.model.specs.declared.Kind.the-variants.{Subgraph, Translation}
 
 pub record Held (b : Bytes) : Type 0 where
-  pub long : length b ≡ 32768
-  pub count : number b 0 ≤ 512
-  pub own : number b 2 ≤ number b 0
-  pub subgraphs : number b 4 ≤ 1024
-  pub translations : number b 6 ≤ 1024
+  pub long : length b ≡ recordLength
+  pub count : nameCount b ≤ 512
+  pub own : ownNumber b ≤ nameCount b
+  pub subgraphs : pairCount Subgraph b ≤ 1024
+  pub translations : pairCount Translation b ≤ 1024
   pub row : bodyEnd 0 (entriesOf b) ≤ 22520
-  pub subgraph : pairsOk (number b 0) (subgraphOf b) ≡ true
-  pub translation : pairsOk (number b 0) (translationOf b) ≡ true
+  pub subgraph : pairsOk (nameCount b) (subgraphOf b) ≡ true
+  pub translation : pairsOk (nameCount b) (translationOf b) ≡ true
   pub order : ascends compareBytes (namesOf b) ≡ true
-  pub used : every (isUsed (number b 2) (subgraphOf b) (translationOf b)) (number b 0) ≡ true
-  pub rest : zeros (drop (bodiesAt b + bodyEnd 0 (entriesOf b)) b) ≡ true
+  pub used : every (isUsed (ownNumber b) (subgraphOf b) (translationOf b)) (nameCount b) ≡ true
+  pub rest : allZero (drop (bodiesAt b + bodyEnd 0 (entriesOf b)) b) ≡ true
 
 pub held : (b : Bytes) → isRecord b ≡ true → Held b
 unfolding isRecord
@@ -54,11 +56,11 @@ pub held-record : (b : Bytes) → Held b → isRecord b ≡ true
 unfolding isRecord
 held-record b h =
     rw (
-      eq-eqb (length b) 32768 (h .long),
-      le-leb (number b 0) 512 (h .count),
-      le-leb (number b 2) (number b 0) (h .own),
-      le-leb (number b 4) 1024 (h .subgraphs),
-      le-leb (number b 6) 1024 (h .translations),
+      eq-eqb (length b) recordLength (h .long),
+      le-leb (nameCount b) 512 (h .count),
+      le-leb (ownNumber b) (nameCount b) (h .own),
+      le-leb (pairCount Subgraph b) 1024 (h .subgraphs),
+      le-leb (pairCount Translation b) 1024 (h .translations),
       le-leb (bodyEnd 0 (entriesOf b)) 22520 (h .row),
       h .subgraph,
       h .translation,

@@ -16,7 +16,7 @@ use Rattle.text.proofs.Tests.{both-true, same-tests}
 use Rattle.text.proofs.Order.{sameBytes-refl, sameBytes-true}
 use Rattle.text.proofs.Ascending.{ascends-true}
 use Rattle.record.specs.Test.{isRecord}
-use Rattle.model.specs.Questions.{isSome}
+use Rattle.model.specs.Opening.{isSome}
 use Rattle.record.proofs.Words.{AllBytes}
 use Rattle.record.proofs.Held.{Held, held, held-record}
 use Rattle.record.specs.Coded.{meaning}

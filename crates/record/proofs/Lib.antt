@@ -13,8 +13,9 @@ pub mod Write
 pub mod ReadWrite
 pub mod Shown
 pub mod Laws
+pub mod Own
+pub mod Opening
 pub mod Access
 pub mod Empty
 pub mod Refusals
 pub mod Parts
-pub mod Asked

@@ -1,21 +1,19 @@
 -- What the questions about a record give, from its bytes: a refusal where the buffer is no record, else the values that stand at known places.
 use mathlib.Core.Path.{_≡_, refl, sym, ap, _∙_}
-use mathlib.Core.Bool.{Bool, true, false, _&&_}
 use mathlib.Core.List.{List, [], _∷_}
-use mathlib.Core.Option.{Option, some, none}
+use mathlib.Core.Option.{some, none}
 use Prim.Native.Nat.{ℕ, zero, suc, _+_, _*_, _≤_, _<_}
 use native.Mathlib.Omega.{arith}
 use native.Mathlib.Nat.{add-zero, add-assoc, zero-add}
-use lib.Dec.{eqb}
 use lib.ListN.{length, take, drop, getD, getElem?, length-append, length-drop}
 use Rattle.model.specs.declared.Kind.{Kind}
 use Rattle.model.specs.declared.Kind.the-variants.{Subgraph, Translation}
 use Rattle.model.specs.Bytes.{Bytes}
 use Rattle.model.specs.Numbers.{number}
 use Rattle.model.specs.Record.{Pair, GraphName, names, bodies}
-use Rattle.model.specs.Layout.{ownAt, decode}
-use Rattle.model.specs.Questions.{refuses, gives, faultOf, faultOfBoth, asked, askedBoth, Part, PairParts, partOf, mapped, pairParts, pairsOf}
-use Rattle.record.specs.Test.{entriesOf, bodiesAt, pairCount, tableAt}
+use Rattle.model.specs.Layout.{bodyOf, bodyLength, bodyStart, nameCount, ownNumber, ownAt, decode, bodiesAt, pairCount, tableAt}
+use Rattle.model.specs.Questions.{Part, PairParts, partOf, mapped, pairParts, pairsOf}
+use Rattle.record.specs.Test.{entriesOf}
 use Rattle.record.proofs.Words.{getD-pairsAt}
 use Rattle.record.specs.Coded.{spans}
 use Rattle.record.proofs.Entries.{cut-holds}
@@ -23,52 +21,6 @@ use Rattle.record.proofs.Places.{place-of-name}
 use Rattle.record.proofs.Names.{names-ascending}
 use Rattle.record.proofs.Laws.{decode-held}
 use Rattle.record.proofs.Access.{record-names, record-count, record-name, record-own, record-pairCount, record-pair, pair-within}
-
--- ------------------------------------------------------------------ refusals
-
-module _ {A : Type 0} (b : Bytes) (f : GraphName → A) where
-  pub asked-refuses : (faultOf b ≡ 0 → ⊥) → asked b f ≡ refuses (faultOf b)
-  unfolding asked faultOf
-  asked-refuses h = go (eqb (length b) 32768) (decode b) refl refl
-    where
-      go : (t : Bool) (o : Option GraphName) → eqb (length b) 32768 ≡ t → decode b ≡ o
-          → asked b f ≡ refuses (faultOf b)
-      go false o e d = rw e
-      go true none e d = rw (e, d)
-      go true (some g) e d = absurd (h (rw (e, d)))
-
-  pub asked-gives : faultOf b ≡ 0 → (g : GraphName) × (decode b ≡ some g) × (asked b f ≡ gives (f g))
-  unfolding asked faultOf
-  asked-gives h = go (eqb (length b) 32768) (decode b) refl refl
-    where
-      go : (t : Bool) (o : Option GraphName) → eqb (length b) 32768 ≡ t → decode b ≡ o
-          → (g : GraphName) × (decode b ≡ some g) × (asked b f ≡ gives (f g))
-      go false o e d = let z : _≡_ {A = ℕ} 15 0 = sym (rw e) ∙ h in absurd (omega arith)
-      go true none e d = let z : _≡_ {A = ℕ} 16 0 = sym (rw (e, d)) ∙ h in absurd (omega arith)
-      go true (some g) e d = (g, d, rw (e, d))
-
-module _ {A : Type 0} (b c : Bytes) (f : GraphName → GraphName → A) where
-  pub both-refuse : (faultOfBoth b c ≡ 0 → ⊥) → askedBoth b c f ≡ refuses (faultOfBoth b c)
-  unfolding askedBoth faultOfBoth
-  both-refuse h = go (eqb (length b) 32768 && eqb (length c) 32768) (decode b) (decode c) refl refl refl
-    where
-      go : (t : Bool) (o p : Option GraphName) → (eqb (length b) 32768 && eqb (length c) 32768) ≡ t → decode b ≡ o → decode c ≡ p
-          → askedBoth b c f ≡ refuses (faultOfBoth b c)
-      go false o p e d k = rw e
-      go true none p e d k = rw (e, d)
-      go true (some g) none e d k = rw (e, d, k)
-      go true (some g) (some i) e d k = absurd (h (rw (e, d, k)))
-
-  pub both-give : faultOfBoth b c ≡ 0 → (g h : GraphName) × (decode b ≡ some g) × (decode c ≡ some h) × (askedBoth b c f ≡ gives (f g h))
-  unfolding askedBoth faultOfBoth
-  both-give z = go (eqb (length b) 32768 && eqb (length c) 32768) (decode b) (decode c) refl refl refl
-    where
-      go : (t : Bool) (o p : Option GraphName) → (eqb (length b) 32768 && eqb (length c) 32768) ≡ t → decode b ≡ o → decode c ≡ p
-          → (g h : GraphName) × (decode b ≡ some g) × (decode c ≡ some h) × (askedBoth b c f ≡ gives (f g h))
-      go false o p e d k = let w : _≡_ {A = ℕ} 15 0 = sym (rw e) ∙ z in absurd (omega arith)
-      go true none p e d k = let w : _≡_ {A = ℕ} 16 0 = sym (rw (e, d)) ∙ z in absurd (omega arith)
-      go true (some g) none e d k = let w : _≡_ {A = ℕ} 16 0 = sym (rw (e, d, k)) ∙ z in absurd (omega arith)
-      go true (some g) (some h) e d k = (g, h, d, k, rw (e, d, k))
 
 -- ------------------------------------------------------------------ places
 
@@ -92,42 +44,42 @@ getD-spans start (n ∷ ns) (suc i) h =
 
 -- where a part begins and how long it is, by the entry at place i
 abbrev pub entryPart : Bytes → ℕ → Part
-entryPart b i = record { start = bodiesAt b + number b (8 + 4 * i); size = number b (8 + 4 * i + 2) }
+entryPart b i = record { start = bodiesAt b + bodyStart b i; size = bodyLength b i }
 
 abbrev pub entryParts : Bytes → ℕ → ℕ → PairParts
 entryParts b i j = record { from = entryPart b i; to = entryPart b j }
 
 module _ (b : Bytes) (g : GraphName) (e : decode b ≡ some g) where
-  entry-at : (i : ℕ) → i < number b 0
-      → (number b (8 + 4 * i) ≡ length (bodies (take i (names g)))) × (number b (8 + 4 * i + 2) ≡ length (getD (names g) i []))
+  entry-at : (i : ℕ) → i < nameCount b
+      → (bodyStart b i ≡ length (bodies (take i (names g)))) × (bodyLength b i ≡ length (getD (names g) i []))
   entry-at i k =
       let h = decode-held b g e in
       let es = cut-holds (entriesOf b) 0 (drop (bodiesAt b) b) (h .row) (rw length-drop (omega arith)) .entries in
       let p =
-      sym (getD-pairsAt (number b 0) 8 b i k)
+      sym (getD-pairsAt (nameCount b) 8 b i k)
       ∙ ap (λ (l : List (ℕ × ℕ)). getD l i (0, 0)) (sym es ∙ ap (spans 0) (sym (record-names b g e)))
       ∙ getD-spans 0 (names g) i (rw (record-count b g e) k) in
       (ap (λ (q : ℕ × ℕ). q .0) p ∙ zero-add _, ap (λ (q : ℕ × ℕ). q .1) p)
 
-  pub part-at : (i : ℕ) → i < number b 0 → partOf g (getD (names g) i []) ≡ entryPart b i
-  unfolding partOf
+  pub part-at : (i : ℕ) → i < nameCount b → partOf g (getD (names g) i []) ≡ entryPart b i
+  unfolding partOf bodyOf
   part-at i k =
       let l : i < length (names g) = rw (record-count b g e) k in
       let entry = entry-at i k in
       rw (place-of-name (names g) i (names-ascending g) l, record-count b g e, record-pairCount b g e Subgraph, record-pairCount b g e Translation, entry .0, entry .1)
 
-  pub name-in : (i : ℕ) → i < number b 0 → mapped (partOf g) (getElem? (names g) i) ≡ some (entryPart b i)
+  pub name-in : (i : ℕ) → i < nameCount b → mapped (partOf g) (getElem? (names g) i) ≡ some (entryPart b i)
   name-in i k = rw (getElem-in (names g) i [] (rw (record-count b g e) k), part-at i k)
 
-  pub name-out : (i : ℕ) → number b 0 ≤ i → mapped (partOf g) (getElem? (names g) i) ≡ none
+  pub name-out : (i : ℕ) → nameCount b ≤ i → mapped (partOf g) (getElem? (names g) i) ≡ none
   name-out i k = rw (getElem-out (names g) i (rw (record-count b g e) k))
 
-  pub own-in : (i : ℕ) → number b 2 ≡ suc i → mapped (partOf g) (g .name) ≡ some (entryPart b i)
+  pub own-in : (i : ℕ) → ownNumber b ≡ suc i → mapped (partOf g) (g .name) ≡ some (entryPart b i)
   own-in i k =
-      let l : i < number b 0 = omega (arith, decode-held b g e .own) in
+      let l : i < nameCount b = omega (arith, decode-held b g e .own) in
       ap (mapped (partOf g)) (record-own b g e ∙ ap (ownAt b) k) ∙ ap some (ap (partOf g) (sym (record-name b g e i l)) ∙ part-at i l)
 
-  pub own-out : number b 2 ≡ 0 → g .name ≡ none
+  pub own-out : ownNumber b ≡ 0 → g .name ≡ none
   own-out k = rw (record-own b g e, k)
 
   pub pair-in : (k : Kind) (i : ℕ) → i < pairCount k b

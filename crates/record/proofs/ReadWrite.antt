@@ -8,16 +8,18 @@ use native.Mathlib.Nat.{zero-add, sub-zero}
 use lib.ListN.{length, take, drop, replicate, length-append, length-drop, length-replicate, take-append-drop}
 use lib.Seq.{drop-drop, getD-drop, drop-append-seam}
 use Rattle.model.specs.Bytes.{Bytes}
-use Rattle.model.specs.Numbers.{number}
 use Rattle.model.specs.Record.{bodies}
-use Rattle.record.specs.Test.{pairsAt, pairsOk, bodyEnd, entriesOf, subgraphAt, translationAt, subgraphOf, translationOf, bodiesAt, namesOf, Under}
+use Rattle.record.specs.Test.{pairsAt, pairsOk, bodyEnd, entriesOf, subgraphOf, translationOf, namesOf, Under}
+use Rattle.model.specs.Layout.{entryLength, pairLength, countsLength, nameCount, ownNumber, pairCount, recordLength, tableAt, bodiesAt}
 use Rattle.record.proofs.Words.{AllBytes, under-weaken, length-pairsAt, lePairs-pairsAt}
 use Rattle.record.proofs.Held.{Held}
 use Rattle.record.proofs.Entries.{length-spans, length-cut, cut-spans, bodyEnd-spans, under-spans, Cut, cut-holds}
-use Rattle.record.proofs.TestLaws.{pairsOk-true, zeros-replicate, zeros-only}
+use Rattle.record.proofs.TestLaws.{pairsOk-true}
+use Rattle.text.proofs.Blocks.{zeros-replicate, zeros-only}
 use Rattle.record.specs.Coded.{Coded, spans}
 use Rattle.record.proofs.Coded.{Fits}
 use Rattle.record.proofs.Write.{parts, size, ending, write, read, length-parts, Parts, parts-read}
+use Rattle.model.specs.declared.Kind.the-variants.{Subgraph, Translation}
 
 -- ------------------------------------------------------------------ reading what was written
 
@@ -35,7 +37,7 @@ module _ (c : Coded) (f : Fits c) where
       small : (ps : List (ℕ × ℕ)) → pairsOk (length (c .names)) ps ≡ true → Under 65536 ps
       small ps e = under-weaken (length (c .names)) 65536 ps (omega arith) (pairsOk-true (length (c .names)) ps .0 e .0)
 
-  count-read : number (write c) 0 ≡ length (c .names)
+  count-read : nameCount (write c) ≡ length (c .names)
   count-read = read-parts .count ∙ length-spans 0 (c .names)
 
   bodyEnd-read : bodyEnd 0 (entriesOf (write c)) ≡ length (bodies (c .names))
@@ -47,7 +49,7 @@ module _ (c : Coded) (f : Fits c) where
   pub read-write : read (write c) ≡ c
   read-write i = record { names = names-read i; own = read-parts .own i; subgraph = read-parts .subgraph i; translation = read-parts .translation i }
 
-  length-write : length (write c) ≡ 32768
+  length-write : length (write c) ≡ recordLength
   unfolding write
   length-write = simp (length-parts, length-append, length-replicate, length-spans) (omega arith)
 
@@ -71,7 +73,7 @@ module _ (c : Coded) (f : Fits c) where
               bodyEnd-read,
               drop-append-seam (bodies (c .names)) (ending c),
             )
-            (zeros-replicate (32768 - size c));
+            (zeros-replicate (recordLength - size c));
       }
 
 -- ------------------------------------------------------------------ writing what was read
@@ -82,39 +84,39 @@ rejoin a k b = rw (← drop-drop k a b) (take-append-drop k (drop a b))
 bytes-drop : (a : ℕ) (b : Bytes) → AllBytes b → AllBytes (drop a b)
 bytes-drop a b h i = rw getD-drop (h (a + i))
 
-head-pairs : (b : Bytes) → pairsAt 2 b ≡ (number b 0, number b 2) ∷ (number b 4, number b 6) ∷ []
+head-pairs : (b : Bytes) → pairsAt 2 b ≡ (nameCount b, ownNumber b) ∷ (pairCount Subgraph b, pairCount Translation b) ∷ []
 unfolding pairsAt
 head-pairs b = simp getD-drop
 
 -- a buffer with room for its parts is made of them
 parts-of : (b : Bytes) → AllBytes b → bodiesAt b ≤ length b
-    → parts (number b 2) (entriesOf b) (subgraphOf b) (translationOf b) (drop (bodiesAt b) b) ≡ b
+    → parts (ownNumber b) (entriesOf b) (subgraphOf b) (translationOf b) (drop (bodiesAt b) b) ≡ b
 unfolding parts
 parts-of b h k =
-    let s = subgraphAt b in
-    let t = translationAt b in
-    let e : bodiesAt b ≡ t + 4 * number b 6 = omega arith in
+    let s = tableAt Subgraph b in
+    let t = tableAt Translation b in
+    let e : bodiesAt b ≡ t + pairLength * pairCount Translation b = omega arith in
     rw (
-      length-pairsAt (number b 0) (drop 8 b),
-      length-pairsAt (number b 4) (drop s b),
-      length-pairsAt (number b 6) (drop t b),
+      length-pairsAt (nameCount b) (drop countsLength b),
+      length-pairsAt (pairCount Subgraph b) (drop s b),
+      length-pairsAt (pairCount Translation b) (drop t b),
       ← head-pairs b,
       lePairs-pairsAt 2 b h (omega arith),
-      lePairs-pairsAt (number b 0) (drop 8 b) (bytes-drop 8 b h) (rw length-drop (omega arith)),
-      lePairs-pairsAt (number b 4) (drop s b) (bytes-drop s b h) (rw length-drop (omega arith)),
-      lePairs-pairsAt (number b 6) (drop t b) (bytes-drop t b h) (rw length-drop (omega arith)),
+      lePairs-pairsAt (nameCount b) (drop countsLength b) (bytes-drop countsLength b h) (rw length-drop (omega arith)),
+      lePairs-pairsAt (pairCount Subgraph b) (drop s b) (bytes-drop s b h) (rw length-drop (omega arith)),
+      lePairs-pairsAt (pairCount Translation b) (drop t b) (bytes-drop t b h) (rw length-drop (omega arith)),
       e,
-      rejoin t (4 * number b 6) b,
-      rejoin s (4 * number b 4) b,
-      rejoin 8 (4 * number b 0) b,
-    ) (take-append-drop 8 b)
+      rejoin t (pairLength * pairCount Translation b) b,
+      rejoin s (pairLength * pairCount Subgraph b) b,
+      rejoin countsLength (entryLength * nameCount b) b,
+    ) (take-append-drop countsLength b)
 
 module _ (b : Bytes) (h : Held b) where
   names-cut : Cut (entriesOf b) 0 (drop (bodiesAt b) b)
   names-cut = cut-holds (entriesOf b) 0 (drop (bodiesAt b) b) (h .row) (rw length-drop (omega arith))
 
-  pub length-names : length (namesOf b) ≡ number b 0
-  length-names = length-cut (entriesOf b) (drop (bodiesAt b) b) ∙ length-pairsAt (number b 0) (drop 8 b)
+  pub length-names : length (namesOf b) ≡ nameCount b
+  length-names = length-cut (entriesOf b) (drop (bodiesAt b) b) ∙ length-pairsAt (nameCount b) (drop countsLength b)
 
   bodyEnd-names : bodyEnd 0 (entriesOf b) ≡ length (bodies (namesOf b))
   bodyEnd-names =
@@ -145,8 +147,8 @@ module _ (b : Bytes) (h : Held b) where
       let cleared : Z ≡ replicate (length Z) 0 = zeros-only Z (rw drop-drop (h .rest)) in
       let whole : bodies (namesOf b) ++ Z ≡ X = rw sub-zero at (names-cut .whole) in
       let l = length-names in
-      let s = length-pairsAt (number b 4) (drop (subgraphAt b) b) in
-      let t = length-pairsAt (number b 6) (drop (translationAt b) b) in
+      let s = length-pairsAt (pairCount Subgraph b) (drop (tableAt Subgraph b) b) in
+      let t = length-pairsAt (pairCount Translation b) (drop (tableAt Translation b) b) in
       let e = bodyEnd-names in
-      let left : 32768 - size (read b) ≡ length Z = simp length-drop (omega arith) in
+      let left : recordLength - size (read b) ≡ length Z = simp length-drop (omega arith) in
       rw (names-cut .entries, left, ← cleared, whole) (parts-of b a (omega arith))

@@ -2,16 +2,18 @@
 -- the others right the zeros decide.
 use mathlib.Core.Path.{_≡_, refl}
 use mathlib.Core.Bool.{Bool, true, false}
-use Prim.Native.Nat.{ℕ, _+_, _*_, _≤_, _<_}
+use Prim.Native.Nat.{ℕ, _+_, _≤_, _<_}
 use native.Mathlib.Omega.{arith}
 use lib.ListN.{length, drop}
 use borrow.Author.Tests.{le-leb, leb-true}
+use Rattle.text.specs.Blocks.{allZero}
 use Rattle.model.specs.Bytes.{Bytes}
-use Rattle.model.specs.Numbers.{number}
 use Rattle.text.proofs.Tests.{both-true, same-tests}
-use Rattle.record.specs.Test.{pairsAt, Under, bodyEnd, pairsOk, zeros, countsOk, tablesOk, isRecord}
+use Rattle.record.specs.Test.{pairsAt, Under, bodyEnd, pairsOk, countsOk, tablesOk, isRecord}
 use Rattle.record.proofs.TestLaws.{pairsOk-true}
 use Rattle.record.proofs.Held.{held, held-record}
+use Rattle.model.specs.Layout.{bodiesAfter, countsLength, nameCount, ownNumber, pairCount, recordLength}
+use Rattle.model.specs.declared.Kind.the-variants.{Subgraph, Translation}
 
 pub not-so : (t : Bool) → (t ≡ true → ⊥) → t ≡ false
 not-so true f = absurd (f refl)
@@ -36,19 +38,19 @@ counted n own s t e =
 pub pairs-under : (n : ℕ) (b : Bytes) (left p : ℕ) → pairsOk n (pairsAt left (drop p b)) ≡ true → Under n (pairsAt left (drop p b))
 pairs-under n b left p e = pairsOk-true n (pairsAt left (drop p b)) .0 e .0
 
-pub refuse-length : (b : Bytes) → (length b ≡ 32768 → ⊥) → isRecord b ≡ false
+pub refuse-length : (b : Bytes) → (length b ≡ recordLength → ⊥) → isRecord b ≡ false
 refuse-length b f = not-so (isRecord b) (λ r. f (held b r .long))
 
-module _ (b : Bytes) (n own s t : ℕ) (en : n ≡ number b 0) (eo : own ≡ number b 2) (es : s ≡ number b 4) (et : t ≡ number b 6) where
+module _ (b : Bytes) (n own s t : ℕ) (en : n ≡ nameCount b) (eo : own ≡ ownNumber b) (es : s ≡ pairCount Subgraph b) (et : t ≡ pairCount Translation b) where
   pub refuse-counts : countsOk n own s t ≡ false → isRecord b ≡ false
   refuse-counts e = not-so (isRecord b) λ r.
       let h = held b r in
       clash (countsOk n own s t)
       (rw (en, eo, es, et, le-leb _ _ (h .count), le-leb _ _ (h .own), le-leb _ _ (h .subgraphs), le-leb _ _ (h .translations))) e
 
-  pub refuse-bodies : 22520 < bodyEnd 0 (pairsAt n (drop 8 b)) → isRecord b ≡ false
+  pub refuse-bodies : 22520 < bodyEnd 0 (pairsAt n (drop countsLength b)) → isRecord b ≡ false
   refuse-bodies h = not-so (isRecord b) λ r.
-      let l : bodyEnd 0 (pairsAt n (drop 8 b)) ≤ 22520 = rw en (held b r .row) in
+      let l : bodyEnd 0 (pairsAt n (drop countsLength b)) ≤ 22520 = rw en (held b r .row) in
       omega arith
 
   pub refuse-tables : tablesOk b n own s t ≡ false → isRecord b ≡ false
@@ -57,8 +59,8 @@ module _ (b : Bytes) (n own s t : ℕ) (en : n ≡ number b 0) (eo : own ≡ num
       let h = held b r in
       clash _ (rw (en, eo, es, et, h .subgraph, h .translation, h .order) (h .used)) e
 
-  pub zeros-decide : length b ≡ 32768 → countsOk n own s t ≡ true → bodyEnd 0 (pairsAt n (drop 8 b)) ≤ 22520 → tablesOk b n own s t ≡ true
-      → zeros (drop (8 + 4 * (n + s + t) + bodyEnd 0 (pairsAt n (drop 8 b))) b) ≡ isRecord b
+  pub zeros-decide : length b ≡ recordLength → countsOk n own s t ≡ true → bodyEnd 0 (pairsAt n (drop countsLength b)) ≤ 22520 → tablesOk b n own s t ≡ true
+      → allZero (drop (bodiesAfter n (s + t) + bodyEnd 0 (pairsAt n (drop countsLength b))) b) ≡ isRecord b
   unfolding tablesOk
   zeros-decide l c r d =
       let k = counted n own s t c in

@@ -1,20 +1,20 @@
 -- The loops that test a record, one law for each way through a turn.
-use mathlib.Core.Path.{_≡_, refl, _∙_}
-use mathlib.Core.Bool.{Bool, true, false, cond, _&&_}
+use mathlib.Core.Path.{_≡_, refl}
+use mathlib.Core.Bool.{Bool, true, cond, _&&_}
 use mathlib.Core.List.{List, [], _∷_}
 use Prim.Native.Nat.{ℕ, zero, suc, _+_, _-_, _≤_, _<_}
 use native.Mathlib.Omega.{arith}
 use native.Mathlib.Numerals.{add-one}
 use lib.Dec.{ltb, eqb}
-use lib.ListN.{length, take, drop, set, getD, drop-of-length-le}
-use lib.Seq.{drop-drop, drop-cons}
-use borrow.Author.Tests.{eq-eqb, ne-eqb, le-leb, lt-leb, eqb-true}
+use lib.ListN.{take, drop, set}
+use lib.Seq.{drop-drop}
+use borrow.Author.Tests.{eq-eqb, ne-eqb, le-leb, lt-leb}
 use Rattle.model.specs.Bytes.{Bytes, compareBytes}
 use Rattle.model.specs.Numbers.{number}
 use Rattle.model.specs.Record.{ascends}
-use Rattle.text.proofs.Tests.{both-true}
-use Rattle.record.specs.Test.{pairsAt, Under, bodyEnd, cut, isLess, pairLess, pairOk, pairsOk, every, marks, zeros}
+use Rattle.record.specs.Test.{pairsAt, Under, bodyEnd, cut, isLess, pairLess, pairOk, pairsOk, every, marks}
 use Rattle.record.proofs.Words.{pairsAt-step}
+use Rattle.model.specs.Layout.{entryLength, pairLength, recordLength}
 
 -- with pairs left, the first of them and one fewer
 pairs-more : (left p : ℕ) (b : Bytes) → 0 < left → pairsAt left (drop p b) ≡ (number b p, number b (p + 2)) ∷ pairsAt (left - 1) (drop (p + 4) b)
@@ -34,11 +34,11 @@ module _ (at left p : ℕ) (b : Bytes) where
   bodyEnd-end h = rw (pairs-none left p b h)
 
   module _ (h : 0 < left) where
-    pub bodyEnd-gap : (number b p ≡ at → ⊥) → bodyEnd at (pairsAt left (drop p b)) ≡ 32768
+    pub bodyEnd-gap : (number b p ≡ at → ⊥) → bodyEnd at (pairsAt left (drop p b)) ≡ recordLength
     unfolding bodyEnd
     bodyEnd-gap e = rw (pairs-more left p b h, ne-eqb (number b p) at e)
 
-    pub bodyEnd-long : number b p ≡ at → 256 < number b (p + 2) → bodyEnd at (pairsAt left (drop p b)) ≡ 32768
+    pub bodyEnd-long : number b p ≡ at → 256 < number b (p + 2) → bodyEnd at (pairsAt left (drop p b)) ≡ recordLength
     unfolding bodyEnd
     bodyEnd-long e l = rw (pairs-more left p b h, eq-eqb (number b p) at e, lt-leb (number b (p + 2)) 256 l)
 
@@ -53,17 +53,16 @@ module _ (n left at : ℕ) (b : Bytes) where
   -- what the code tests of the first pair
   pub pairOk-at : 0 < left → pairOk n (pairsAt left (drop at b))
       ≡ (ltb (number b at) n && (ltb (number b (at + 2)) n
-      && cond (eqb left 1) true (pairLess (number b at) (number b (at + 2)) (number b (at + 4)) (number b (at + 6)))))
+      && cond (eqb left 1) true (pairLess (number b at) (number b (at + 2)) (number b (at + pairLength)) (number b (at + pairLength + 2)))))
   pairOk-at h = go left refl
     where
       go : (k : ℕ) → left ≡ k → pairOk n (pairsAt left (drop at b))
           ≡ (ltb (number b at) n && (ltb (number b (at + 2)) n
-          && cond (eqb left 1) true (pairLess (number b at) (number b (at + 2)) (number b (at + 4)) (number b (at + 6)))))
+          && cond (eqb left 1) true (pairLess (number b at) (number b (at + 2)) (number b (at + pairLength)) (number b (at + pairLength + 2)))))
       go zero e = absurd (omega arith)
       go (suc zero) e = rw (pairs-more left at b h, pairs-none (left - 1) (at + 4) b (omega arith), eq-eqb left 1 e)
       go (suc (suc k)) e =
-          let d : at + 4 + 2 ≡ at + 6 = omega arith in
-          rw (pairs-more left at b h, pairs-more (left - 1) (at + 4) b (omega arith), d, ne-eqb left 1 (λ q. omega arith))
+          rw (pairs-more left at b h, pairs-more (left - 1) (at + 4) b (omega arith), ne-eqb left 1 (λ q. omega arith))
 
   pub pairsOk-end : left ≤ 0 → pairsOk n (pairsAt left (drop at b)) ≡ true
   unfolding pairsOk
@@ -90,12 +89,11 @@ ascends-few (suc zero) p q b h = refl
 ascends-few (suc (suc k)) p q b h = absurd (omega arith)
 
 pub ascends-more : (left p q : ℕ) (b : Bytes) → 1 < left → ascends compareBytes (namesLeft left p q b)
-    ≡ (isLess (compareBytes (take (number b (p + 2)) (drop q b)) (take (number b (p + 6)) (drop (q + number b (p + 2)) b)))
+    ≡ (isLess (compareBytes (take (number b (p + 2)) (drop q b)) (take (number b (p + entryLength + 2)) (drop (q + number b (p + 2)) b)))
     && ascends compareBytes (namesLeft (left - 1) (p + 4) (q + number b (p + 2)) b))
 unfolding ascends
 ascends-more left p q b h =
-    let e : p + 4 + 2 ≡ p + 6 = omega arith in
-    rw (names-more left p q b (omega arith), names-more (left - 1) (p + 4) (q + number b (p + 2)) b (omega arith), e)
+    rw (names-more left p q b (omega arith), names-more (left - 1) (p + 4) (q + number b (p + 2)) b (omega arith))
 
 -- ------------------------------------------------------------------ the marks
 
@@ -120,45 +118,3 @@ every-none f = refl
 pub every-more : (f : ℕ → Bool) (n : ℕ) → every f (n + 1) ≡ (every f n && f n)
 unfolding every
 every-more f n = rw add-one
-
--- ------------------------------------------------------------------ the zeros
-
-module _ (b : Bytes) (i : ℕ) where
-  pub zeros-end : length b ≤ i → zeros (drop i b) ≡ true
-  unfolding zeros
-  zeros-end h = rw (drop-of-length-le b h)
-
-  pub zeros-false : i < length b → (getD b i 0 ≡ 0 → ⊥) → zeros (drop i b) ≡ false
-  unfolding zeros
-  zeros-false h e = rw (drop-cons b i 0 h, ne-eqb (getD b i 0) 0 e)
-
-  pub zeros-more : i < length b → getD b i 0 ≡ 0 → zeros (drop i b) ≡ zeros (drop (i + 1) b)
-  unfolding zeros
-  zeros-more h e = rw (drop-cons b i 0 h, eq-eqb (getD b i 0) 0 e, add-one)
-
-zeros-drop : (k : ℕ) (l : Bytes) → zeros l ≡ true → zeros (drop k l) ≡ true
-unfolding zeros
-zeros-drop zero l e = e
-zeros-drop (suc k) [] e = e
-zeros-drop (suc k) (x ∷ xs) e = zeros-drop k xs (both-true (eqb x 0) (zeros xs) e .1)
-
-pub zeros-not : (l : Bytes) → _≡_ {A = Bool} false true → zeros l ≡ true
-zeros-not l e = absurd (let z : _≡_ {A = ℕ} 0 1 = cc in omega arith)
-
--- the last n bytes are zero, and i is among them
-pub zeros-last : (b : Bytes) (i n : ℕ) (r : Bool) → n ≤ length b → length b - n ≤ i → (r ≡ true → zeros (drop (length b - n) b) ≡ zeros (drop (length b - n + n) b))
-    → r ≡ true → zeros (drop i b) ≡ true
-zeros-last b i n r h w so e =
-    let whole : zeros (drop (length b - n) b) ≡ true = so e ∙ zeros-end b (length b - n + n) (omega arith) in
-    let k : length b - n + (i - (length b - n)) ≡ i = omega arith in
-    let step = drop-drop (i - (length b - n)) (length b - n) b in
-    rw (← k, ← step) (zeros-drop (i - (length b - n)) (drop (length b - n) b) whole)
-
--- a turn of the test of a block: with k zeros from `at` on, and the next byte zero as well
-pub zeros-turn : (b : Bytes) (at k : ℕ) (all : Bool) → at + k < length b
-    → (all ≡ true → zeros (drop at b) ≡ zeros (drop (at + k) b)) → (all && eqb (getD b (at + k) 0) 0) ≡ true
-    → zeros (drop at b) ≡ zeros (drop (at + (k + 1)) b)
-zeros-turn b at k all h so e =
-    let t = both-true all _ e in
-    let n : at + k + 1 ≡ at + (k + 1) = omega arith in
-    so (t .0) ∙ rw (← n) (zeros-more b (at + k) h (eqb-true _ _ (t .1)))

@@ -1,19 +1,18 @@
 -- What each part of the test says.
-use mathlib.Core.Path.{_≡_, refl, sym, ap₂}
+use mathlib.Core.Path.{_≡_, refl, sym}
 use mathlib.Core.Logic.{_⊎_, inl, inr, ⊎-elim, _↔_, Iff·trans}
 use mathlib.Core.Bool.{Bool, true, false, cond, _&&_, _||_, false≢true}
 use mathlib.Core.List.{List, [], _∷_, _++_, List·Memᴰ, List·Memᴰ·head, List·Memᴰ·not-nil, List·Memᴰ·eq-of-singleton}
 use Prim.Native.Nat.{ℕ, zero, suc, _+_, _<_}
 use native.Mathlib.Omega.{arith}
-use lib.ListN.{length, replicate}
 use lib.Dec.{ltb, eqb}
 use borrow.Author.Tests.{ltb-true, ltb-false, lt-ltb, eqb-true, eq-eqb}
 use Rattle.model.specs.declared.Order.the-variants.{Less, Equal, Greater}
-use Rattle.model.specs.Bytes.{Bytes, byOrder, thenBy, compareNumbers}
+use Rattle.model.specs.Bytes.{byOrder, thenBy, compareNumbers}
 use Rattle.model.specs.Record.{ascends}
 use Rattle.text.proofs.Tests.{both-true, either-iff}
 use Rattle.text.proofs.Places.{member-cons, member-append}
-use Rattle.record.specs.Test.{pairLess, pairsOk, hasPlace, isUsed, every, zeros, Under}
+use Rattle.record.specs.Test.{pairLess, pairsOk, hasPlace, isUsed, every, Under}
 use Rattle.record.proofs.Places.{flat, comparePlaces}
 
 -- ------------------------------------------------------------------ pairs
@@ -100,17 +99,3 @@ isUsed-true own ps qs i = append (append (ownPlace own) (hasPlace-true i ps)) (h
 
     append : {s t : Bool} {l k : List ℕ} → (s ≡ true ↔ List·Memᴰ i l) → (t ≡ true ↔ List·Memᴰ i k) → s || t ≡ true ↔ List·Memᴰ i (l ++ k)
     append {s} {t} {l} {k} f g = Iff·trans (either-iff s t f g) (member-append i l k)
-
--- ------------------------------------------------------------------ zeros
-
-pub zeros-replicate : (n : ℕ) → zeros (replicate n 0) ≡ true
-unfolding zeros
-zeros-replicate zero = refl
-zeros-replicate (suc n) = zeros-replicate n
-
-pub zeros-only : (b : Bytes) → zeros b ≡ true → b ≡ replicate (length b) 0
-unfolding zeros
-zeros-only [] h = refl
-zeros-only (x ∷ xs) h =
-    let p = both-true (eqb x 0) (zeros xs) h in
-    ap₂ _∷_ (eqb-true x 0 (p .0)) (zeros-only xs (p .1))

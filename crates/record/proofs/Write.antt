@@ -8,13 +8,14 @@ use lib.Seq.{drop-drop, drop-at}
 use Rattle.model.specs.Bytes.{Bytes}
 use Rattle.model.specs.Numbers.{le16, number}
 use Rattle.model.specs.Record.{GraphName, names, bodies}
-use Rattle.model.specs.Layout.{entries, pairPlaces, ownPlace, contents, encode}
-use Rattle.record.specs.Test.{entriesOf, subgraphOf, translationOf, bodiesAt, namesOf, Under}
+use Rattle.model.specs.Layout.{countsLength, entryLength, pairLength, entryAt, bodiesAfter, nameCount, ownNumber, pairCount, recordLength, entries, pairPlaces, ownPlace, contents, encode, bodiesAt}
+use Rattle.record.specs.Test.{entriesOf, subgraphOf, translationOf, namesOf, Under}
 use Rattle.record.proofs.Words.{length-lePairs, pairsAt-lePairs}
 use Rattle.record.proofs.Entries.{lePairs-spans, length-spans}
 use Rattle.record.proofs.Places.{placesIn, lePairs-places}
 use Rattle.record.specs.Coded.{Coded, lePairs, spans}
 use Rattle.record.proofs.Coded.{coded}
+use Rattle.model.specs.declared.Kind.the-variants.{Subgraph, Translation}
 
 -- a buffer of given parts
 unfoldable pub parts : ℕ → List (ℕ × ℕ) → List (ℕ × ℕ) → List (ℕ × ℕ) → Bytes → Bytes
@@ -22,22 +23,22 @@ parts o E S T X = lePairs ((length E, o) ∷ (length S, length T) ∷ []) ++ (le
 
 -- how many bytes are in use
 abbrev pub size : Coded → ℕ
-size c = 8 + 4 * (length (c .names) + length (c .subgraph) + length (c .translation)) + length (bodies (c .names))
+size c = bodiesAfter (length (c .names)) (length (c .subgraph) + length (c .translation)) + length (bodies (c .names))
 
 -- the bytes of c, with X in the place of the bodies
 abbrev pub partsOf : Coded → Bytes → Bytes
 partsOf c X = parts (c .own) (spans 0 (c .names)) (c .subgraph) (c .translation) X
 
 abbrev pub ending : Coded → Bytes
-ending c = replicate (32768 - size c) 0
+ending c = replicate (recordLength - size c) 0
 
 unfoldable pub write : Coded → Bytes
 write c = partsOf c (bodies (c .names) ++ ending c)
 
 abbrev pub read : Bytes → Coded
-read b = record { names = namesOf b; own = number b 2; subgraph = subgraphOf b; translation = translationOf b }
+read b = record { names = namesOf b; own = ownNumber b; subgraph = subgraphOf b; translation = translationOf b }
 
-pub length-parts : (o : ℕ) (E S T : List (ℕ × ℕ)) (X : Bytes) → length (parts o E S T X) ≡ 8 + 4 * (length E + length S + length T) + length X
+pub length-parts : (o : ℕ) (E S T : List (ℕ × ℕ)) (X : Bytes) → length (parts o E S T X) ≡ bodiesAfter (length E) (length S + length T) + length X
 unfolding parts
 length-parts o E S T X = simp (length-append, length-lePairs) (omega arith)
 
@@ -77,10 +78,10 @@ encode-write g =
 
 -- what is read at each place of b
 pub record Parts (b : Bytes) (o : ℕ) (E S T : List (ℕ × ℕ)) (X : Bytes) : Type 0 where
-  pub count : number b 0 ≡ length E
-  pub own : number b 2 ≡ o
-  pub subgraphs : number b 4 ≡ length S
-  pub translations : number b 6 ≡ length T
+  pub count : nameCount b ≡ length E
+  pub own : ownNumber b ≡ o
+  pub subgraphs : pairCount Subgraph b ≡ length S
+  pub translations : pairCount Translation b ≡ length T
   pub entries : entriesOf b ≡ E
   pub subgraph : subgraphOf b ≡ S
   pub translation : translationOf b ≡ T
@@ -103,24 +104,24 @@ module _ (o : ℕ) (E S T : List (ℕ × ℕ)) (X : Bytes) (head : Under 65536 (
   unfolding parts lePairs Under
   translations-parts = omega arith
 
-  drop-head : drop 8 (parts o E S T X) ≡ lePairs E ++ (lePairs S ++ (lePairs T ++ X))
+  drop-head : drop countsLength (parts o E S T X) ≡ lePairs E ++ (lePairs S ++ (lePairs T ++ X))
   drop-head = unfold parts lePairs in refl
 
-  drop-entries : drop (8 + 4 * length E) (parts o E S T X) ≡ lePairs S ++ (lePairs T ++ X)
-  drop-entries = rw (← drop-drop (4 * length E) 8, drop-head, drop-at (lePairs E) (lePairs S ++ (lePairs T ++ X)) (4 * length E) (length-lePairs E))
+  drop-entries : drop (entryAt (length E)) (parts o E S T X) ≡ lePairs S ++ (lePairs T ++ X)
+  drop-entries = rw (← drop-drop (entryLength * length E) countsLength, drop-head, drop-at (lePairs E) (lePairs S ++ (lePairs T ++ X)) (entryLength * length E) (length-lePairs E))
 
-  drop-subgraph : drop (8 + 4 * length E + 4 * length S) (parts o E S T X) ≡ lePairs T ++ X
+  drop-subgraph : drop (entryAt (length E) + pairLength * length S) (parts o E S T X) ≡ lePairs T ++ X
   drop-subgraph =
       rw (
-        ← drop-drop (4 * length S) (8 + 4 * length E),
+        ← drop-drop (pairLength * length S) (entryAt (length E)),
         drop-entries,
-        drop-at (lePairs S) (lePairs T ++ X) (4 * length S) (length-lePairs S),
+        drop-at (lePairs S) (lePairs T ++ X) (pairLength * length S) (length-lePairs S),
       )
 
-  drop-translation : drop (8 + 4 * (length E + length S + length T)) (parts o E S T X) ≡ X
+  drop-translation : drop (bodiesAfter (length E) (length S + length T)) (parts o E S T X) ≡ X
   drop-translation =
-      let e : 8 + 4 * (length E + length S + length T) ≡ 8 + 4 * length E + 4 * length S + 4 * length T = omega arith in
-      rw (e, ← drop-drop (4 * length T) (8 + 4 * length E + 4 * length S), drop-subgraph, drop-at (lePairs T) X (4 * length T) (length-lePairs T))
+      let e : bodiesAfter (length E) (length S + length T) ≡ entryAt (length E) + pairLength * length S + pairLength * length T = omega arith in
+      rw (e, ← drop-drop (pairLength * length T) (entryAt (length E) + pairLength * length S), drop-subgraph, drop-at (lePairs T) X (pairLength * length T) (length-lePairs T))
 
   pub parts-read : Under 65536 E → Under 65536 S → Under 65536 T → Parts (parts o E S T X) o E S T X
   parts-read u v w = record {

@@ -1,5 +1,4 @@
 -- Between a graph name and its bytes: the distinct names, ascending, and places in them. And the bytes of pairs of numbers.
--- Assumes nothing.
 use mathlib.Core.List.{List, [], _∷_, _++_, map}
 use mathlib.Core.Option.{Option, some, none}
 use Prim.Native.Nat.{ℕ, zero, suc, _+_}

@@ -1,16 +1,17 @@
--- The test of a buffer, part by part: what the check of a record goes through, in its order. Assumes nothing; that the whole says what
--- `decode` says is a law.
+-- The test of a buffer, part by part: what the check of a record goes through, in its order. That the whole says what `decode` says is
+-- a law.
 use mathlib.Core.Bool.{Bool, true, false, cond, _&&_, _||_}
 use mathlib.Core.List.{List, [], _∷_}
 use Prim.Native.Nat.{ℕ, zero, suc, _+_, _*_, _<_}
 use lib.ListN.{length, take, drop, set, getD}
 use lib.Dec.{leb, ltb, eqb}
-use Rattle.model.specs.declared.Kind.{Kind}
+use Rattle.text.specs.Blocks.{allZero}
 use Rattle.model.specs.declared.Kind.the-variants.{Subgraph, Translation}
 use Rattle.model.specs.declared.Order.{Order}
 use Rattle.model.specs.Bytes.{Bytes, byOrder, compareBytes}
 use Rattle.model.specs.Numbers.{number}
 use Rattle.model.specs.Record.{ascends}
+use Rattle.model.specs.Layout.{recordLength, countsLength, pairLength, entryAt, bodiesAfter, nameCount, ownNumber, pairCount, tableAt, bodiesAt}
 
 -- the first n pairs of numbers of b
 unfoldable pub pairsAt : ℕ → Bytes → List (ℕ × ℕ)
@@ -22,10 +23,10 @@ unfoldable pub Under : ℕ → List (ℕ × ℕ) → Type 0
 Under n [] = Unit {0}
 Under n (p ∷ ps) = (p .0 < n) × (p .1 < n) × Under n ps
 
--- where the bodies end, counted from the first, if the entries leave no gap and no name is long; else 32768
+-- where the bodies end, counted from the first, if the entries leave no gap and no name is long; else a record's length
 unfoldable pub bodyEnd : ℕ → List (ℕ × ℕ) → ℕ
 bodyEnd at [] = at
-bodyEnd at (e ∷ es) = cond (eqb (e .0) at && leb (e .1) 256) (bodyEnd (at + e .1) es) 32768
+bodyEnd at (e ∷ es) = cond (eqb (e .0) at && leb (e .1) 256) (bodyEnd (at + e .1) es) recordLength
 
 -- the names, cut off the front of the bodies by their lengths
 unfoldable pub cut : List (ℕ × ℕ) → Bytes → List Bytes
@@ -79,38 +80,16 @@ markOwn (suc i) m = set m i 1
 abbrev pub isOne : Bytes → ℕ → Bool
 isOne m i = eqb (getD m i 0) 1
 
-unfoldable pub zeros : Bytes → Bool
-zeros [] = true
-zeros (x ∷ xs) = eqb x 0 && zeros xs
-
 -- ------------------------------------------------------------------ the parts of a buffer
 
 abbrev pub entriesOf : Bytes → List (ℕ × ℕ)
-entriesOf b = pairsAt (number b 0) (drop 8 b)
-
-abbrev pub subgraphAt : Bytes → ℕ
-subgraphAt b = 8 + 4 * number b 0
-
-abbrev pub translationAt : Bytes → ℕ
-translationAt b = 8 + 4 * number b 0 + 4 * number b 4
-
-abbrev pub bodiesAt : Bytes → ℕ
-bodiesAt b = 8 + 4 * (number b 0 + number b 4 + number b 6)
-
--- how many pairs of a kind there are, and where they start
-abbrev pub pairCount : Kind → Bytes → ℕ
-pairCount Subgraph b = number b 4
-pairCount Translation b = number b 6
-
-abbrev pub tableAt : Kind → Bytes → ℕ
-tableAt Subgraph b = subgraphAt b
-tableAt Translation b = translationAt b
+entriesOf b = pairsAt (nameCount b) (drop countsLength b)
 
 abbrev pub subgraphOf : Bytes → List (ℕ × ℕ)
-subgraphOf b = pairsAt (number b 4) (drop (subgraphAt b) b)
+subgraphOf b = pairsAt (pairCount Subgraph b) (drop (tableAt Subgraph b) b)
 
 abbrev pub translationOf : Bytes → List (ℕ × ℕ)
-translationOf b = pairsAt (number b 6) (drop (translationAt b) b)
+translationOf b = pairsAt (pairCount Translation b) (drop (tableAt Translation b) b)
 
 abbrev pub namesOf : Bytes → List Bytes
 namesOf b = cut (entriesOf b) (drop (bodiesAt b) b)
@@ -121,20 +100,20 @@ countsOk n own s t = leb n 512 && (leb own n && (leb s 1024 && leb t 1024))
 -- the pairs of both kinds are right, the names ascend, and all are used
 unfoldable pub tablesOk : Bytes → ℕ → ℕ → ℕ → ℕ → Bool
 tablesOk b n own s t =
-    let ps = pairsAt s (drop (8 + 4 * n) b) in
-    let qs = pairsAt t (drop (8 + 4 * n + 4 * s) b) in
-    pairsOk n ps && (pairsOk n qs && (ascends compareBytes (cut (pairsAt n (drop 8 b)) (drop (8 + 4 * (n + s + t)) b)) && every (isUsed own ps qs) n))
+    let ps = pairsAt s (drop (entryAt n) b) in
+    let qs = pairsAt t (drop (entryAt n + pairLength * s) b) in
+    pairsOk n ps && (pairsOk n qs && (ascends compareBytes (cut (pairsAt n (drop countsLength b)) (drop (bodiesAfter n (s + t)) b)) && every (isUsed own ps qs) n))
 
 unfoldable pub isRecord : Bytes → Bool
 isRecord b =
-    eqb (length b) 32768
-    && (leb (number b 0) 512
-    && (leb (number b 2) (number b 0)
-    && (leb (number b 4) 1024
-    && (leb (number b 6) 1024
+    eqb (length b) recordLength
+    && (leb (nameCount b) 512
+    && (leb (ownNumber b) (nameCount b)
+    && (leb (pairCount Subgraph b) 1024
+    && (leb (pairCount Translation b) 1024
     && (leb (bodyEnd 0 (entriesOf b)) 22520
-    && (pairsOk (number b 0) (subgraphOf b)
-    && (pairsOk (number b 0) (translationOf b)
+    && (pairsOk (nameCount b) (subgraphOf b)
+    && (pairsOk (nameCount b) (translationOf b)
     && (ascends compareBytes (namesOf b)
-    && (every (isUsed (number b 2) (subgraphOf b) (translationOf b)) (number b 0)
-    && zeros (drop (bodiesAt b + bodyEnd 0 (entriesOf b)) b))))))))))
+    && (every (isUsed (ownNumber b) (subgraphOf b) (translationOf b)) (nameCount b)
+    && allZero (drop (bodiesAt b + bodyEnd 0 (entriesOf b)) b))))))))))

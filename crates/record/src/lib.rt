@@ -1,17 +1,22 @@
 // Records: the test of a buffer, and where things stand in one.
 //
-// The functions of `verdict` take any slice of any length. Those of `layout` and `reader` are for buffers that were tested.
+// The functions of `validity` take any slice of any length. Those of `layout` and `reader` ask that what they read lies within the slice.
 mod layout;
+mod offsets;
 mod reader;
 mod test;
-mod verdict;
+mod validity;
 
 pub use layout::Head;
 pub use layout::Part;
 pub use layout::bodies_at;
+pub use layout::body_length;
+pub use layout::body_start;
+pub use layout::has_name;
 pub use layout::name_at;
 pub use layout::name_count;
 pub use layout::name_in;
+pub use layout::own_name;
 pub use layout::own_place;
 pub use layout::pair_at;
 pub use layout::pair_count;
@@ -19,12 +24,17 @@ pub use layout::pair_from;
 pub use layout::pair_to;
 pub use layout::part_of;
 pub use layout::table_at;
+pub use offsets::ENTRY_LENGTH;
+pub use offsets::PAIR_LENGTH;
+pub use offsets::RECORD_LENGTH;
+pub use offsets::empty_record;
+pub use offsets::entry_at;
 pub use reader::Reader;
 pub use reader::head;
 pub use reader::head_at;
 pub use reader::open;
 pub use reader::part;
 pub use reader::part_at;
-pub use verdict::fault;
-pub use verdict::fault_of_both;
-pub use verdict::is_record;
+pub use validity::fault;
+pub use validity::fault_of_both;
+pub use validity::is_record;

@@ -5,11 +5,12 @@ use crate::layout::Part;
 use crate::layout::part_of;
 use text::read16;
 ghost use mathlib.Core.Path.{_≡_};
-ghost use Prim.Native.Nat.{_<_};
+ghost use Prim.Native.Nat.{_+_, _≤_};
 ghost use lib.ListN.{length};
+ghost use Rattle.model.specs.Layout.{countsLength, entryLength, entryAt};
 ghost use Rattle.record.specs.Reader.{Opened, IsHead, IsPart};
 
-// A buffer of a record's length, and what it counts in its first eight bytes: its names; the own name, by its place counted from 1, or 0
+// A buffer with room for the counts, and what it counts in its first eight bytes: its names; the own name, by its place counted from 1, or 0
 // for none; its pairs of each kind.
 pub struct Reader<'a> {
     pub bytes: &'a [u8],
@@ -21,7 +22,7 @@ pub struct Reader<'a> {
 
 // A buffer with its counts.
 pub fn open<'a>(b: &'a [u8]) -> Reader<'a>
-    requires { ⌜ length (now b) ≡ 32768 ⌝ }
+    requires { ⌜ countsLength ≤ length (now b) ⌝ }
     ensures { λ r. ⌜ (r .bytes ≡ b .entry) × Opened r ⌝ }
 {
     Reader {
@@ -48,7 +49,7 @@ pub fn head<'a>(r: Reader<'a>) -> Head
 
 // Where the body of the name at place i stands.
 pub fn part<'a>(r: Reader<'a>, i: usize) -> Part
-    requires { ⌜ Opened r × (i < 8190) ⌝ }
+    requires { ⌜ Opened r × (entryAt i + entryLength ≤ length (now (r .bytes))) ⌝ }
     ensures { λ p. ⌜ IsPart (now (r .entry .bytes)) i p ⌝ }
 {
     part_of(r.bytes, r.names, r.subgraph, r.translation, i)
@@ -56,7 +57,7 @@ pub fn part<'a>(r: Reader<'a>, i: usize) -> Part
 
 // The counts of a plain buffer.
 pub fn head_at(b: &[u8]) -> Head
-    requires { ⌜ length (now b) ≡ 32768 ⌝ }
+    requires { ⌜ countsLength ≤ length (now b) ⌝ }
     ensures { λ r. ⌜ IsHead (now (b .entry)) r ⌝ }
 {
     head(open(b))
@@ -64,7 +65,7 @@ pub fn head_at(b: &[u8]) -> Head
 
 // Where the body of the name at place i of a plain buffer stands.
 pub fn part_at(b: &[u8], i: usize) -> Part
-    requires { ⌜ (length (now b) ≡ 32768) × (i < 8190) ⌝ }
+    requires { ⌜ entryAt i + entryLength ≤ length (now b) ⌝ }
     ensures { λ r. ⌜ IsPart (now (b .entry)) i r ⌝ }
 {
     part(open(b), i)

@@ -1,4 +1,8 @@
 // The test of a buffer: whether it is a record, part by part.
+use crate::offsets::COUNTS_LENGTH;
+use crate::offsets::ENTRY_LENGTH;
+use crate::offsets::PAIR_LENGTH;
+use crate::offsets::RECORD_LENGTH;
 use model::Order;
 use text::read16;
 ghost use mathlib.Core.Path.{_≡_};
@@ -7,27 +11,28 @@ ghost use Prim.Native.Nat.{_+_, _*_, _≤_, _<_};
 ghost use lib.ListN.{length, drop, replicate};
 ghost use Rattle.model.specs.Bytes.{compareBytes};
 ghost use Rattle.model.specs.Record.{ascends};
-ghost use Rattle.record.specs.Test.{pairsAt, Under, bodyEnd, cut, isLess, pairLess, pairOk, pairsOk, isUsed, every, marks, markOwn, isOne, zeros};
+ghost use Rattle.model.specs.Layout.{recordLength, countsLength, pairLength, entryAt};
+ghost use Rattle.record.specs.Test.{pairsAt, Under, bodyEnd, cut, isLess, pairLess, pairOk, pairsOk, isUsed, every, marks, markOwn, isOne};
 
-// Where the bodies of n names end, counted from the first, if the entries leave no gap and no name is long; else 32768.
+// Where the bodies of n names end, counted from the first, if the entries leave no gap and no name is long; else a record's length.
 pub(crate) fn body_end(b: &[u8], n: usize) -> usize
-    requires { ⌜ (n ≤ 512) × (8 + 4 * n ≤ length (now b)) ⌝ }
-    ensures { λ r. ⌜ r ≡ bodyEnd 0 (pairsAt n (drop 8 (now (b .entry)))) ⌝ }
+    requires { ⌜ (n ≤ 512) × (entryAt n ≤ length (now b)) ⌝ }
+    ensures { λ r. ⌜ r ≡ bodyEnd 0 (pairsAt n (drop countsLength (now (b .entry)))) ⌝ }
 {
     let mut at = 0;
-    let mut p = 8;
+    let mut p = COUNTS_LENGTH;
     let mut left = n;
     while 0 < left {
         let start = read16(b, p);
         let size = read16(b, p + 2);
         if start != at {
-            return 32768;
+            return RECORD_LENGTH;
         }
         if 256 < size {
-            return 32768;
+            return RECORD_LENGTH;
         }
         at += size;
-        p += 4;
+        p += ENTRY_LENGTH;
         left -= 1;
     }
     at
@@ -48,7 +53,7 @@ fn pair_less(a: usize, b: usize, c: usize, d: usize) -> bool
 
 // Whether the first of the `left` pairs from `at` on is of places below n, and comes before the next.
 fn pair_ok(b: &[u8], at: usize, left: usize, n: usize) -> bool
-    requires { ⌜ (0 < left) × (at + 4 * left ≤ length (now b)) ⌝ }
+    requires { ⌜ (0 < left) × (at + pairLength * left ≤ length (now b)) ⌝ }
     ensures { λ r. ⌜ r ≡ pairOk n (pairsAt left (drop at (now (b .entry)))) ⌝ }
 {
     let x = read16(b, at);
@@ -62,12 +67,17 @@ fn pair_ok(b: &[u8], at: usize, left: usize, n: usize) -> bool
     if left == 1 {
         return true;
     }
-    pair_less(x, y, read16(b, at + 4), read16(b, at + 6))
+    pair_less(
+        x,
+        y,
+        read16(b, at + PAIR_LENGTH),
+        read16(b, at + PAIR_LENGTH + 2),
+    )
 }
 
 // Whether the `count` pairs from `at` on are of places below n, and ascend.
 pub(crate) fn pairs_ok(b: &[u8], at: usize, count: usize, n: usize) -> bool
-    requires { ⌜ at + 4 * count ≤ length (now b) ⌝ }
+    requires { ⌜ at + pairLength * count ≤ length (now b) ⌝ }
     ensures { λ r. ⌜ r ≡ pairsOk n (pairsAt count (drop at (now (b .entry)))) ⌝ }
 {
     let mut p = at;
@@ -76,7 +86,7 @@ pub(crate) fn pairs_ok(b: &[u8], at: usize, count: usize, n: usize) -> bool
         if !pair_ok(b, p, left, n) {
             return false;
         }
-        p += 4;
+        p += PAIR_LENGTH;
         left -= 1;
     }
     true
@@ -94,20 +104,20 @@ fn is_less(a: &[u8], b: &[u8]) -> bool
 
 // Whether the n names whose bodies start at `bodies` ascend.
 pub(crate) fn names_ascend(b: &[u8], n: usize, bodies: usize) -> bool
-    requires { ⌜ (n ≤ 512) × (8 + 4 * n ≤ length (now b)) × (bodies ≤ 32768) ⌝ }
-    ensures { λ r. ⌜ r ≡ ascends compareBytes (cut (pairsAt n (drop 8 (now (b .entry)))) (drop bodies (now (b .entry)))) ⌝ }
+    requires { ⌜ (n ≤ 512) × (entryAt n ≤ length (now b)) × (bodies ≤ recordLength) ⌝ }
+    ensures { λ r. ⌜ r ≡ ascends compareBytes (cut (pairsAt n (drop countsLength (now (b .entry)))) (drop bodies (now (b .entry)))) ⌝ }
 {
-    let mut p = 8;
+    let mut p = COUNTS_LENGTH;
     let mut q = bodies;
     let mut left = n;
     while 1 < left {
         let size = read16(b, p + 2);
-        let next = read16(b, p + 6);
+        let next = read16(b, p + ENTRY_LENGTH + 2);
         if !is_less(text::part(b, q, size), text::part(b, q + size, next)) {
             return false;
         }
         q += size;
-        p += 4;
+        p += ENTRY_LENGTH;
         left -= 1;
     }
     true
@@ -115,7 +125,7 @@ pub(crate) fn names_ascend(b: &[u8], n: usize, bodies: usize) -> bool
 
 // Marks both places of each of the `count` pairs from `at` on.
 fn mark_pairs(used: &mut [u8], b: &[u8], at: usize, count: usize)
-    requires { ⌜ (at + 4 * count ≤ length (now b)) × Under (length (now used)) (pairsAt count (drop at (now b))) ⌝ }
+    requires { ⌜ (at + pairLength * count ≤ length (now b)) × Under (length (now used)) (pairsAt count (drop at (now b))) ⌝ }
     ensures { λ _. ⌜ now (used .exit) ≡ marks (pairsAt count (drop at (now (b .entry)))) (now (used .entry)) ⌝ }
 {
     let mut p = at;
@@ -125,7 +135,7 @@ fn mark_pairs(used: &mut [u8], b: &[u8], at: usize, count: usize)
         let y = read16(b, p + 2);
         used[x] = 1;
         used[y] = 1;
-        p += 4;
+        p += PAIR_LENGTH;
         left -= 1;
     }
 }
@@ -142,61 +152,6 @@ fn all_marked(used: &[u8], n: usize) -> bool
         i += 1;
     }
     all
-}
-
-// Whether the 256 bytes from `at` on are zero.
-fn zero_block(b: &[u8], at: usize) -> bool
-    requires { ⌜ at + 256 ≤ length (now b) ⌝ }
-    ensures { λ r. ⌜ (r ≡ true → zeros (drop at (now (b .entry))) ≡ zeros (drop (at + 256) (now (b .entry)))) ⌝ }
-{
-    let mut zero = true;
-    for k in 0..256 {
-        zero = zero & (b[at + k] == 0);
-    }
-    zero
-}
-
-// A place from `at` on before which all is zero: at a block of 256 bytes that is not, or at the last that is not whole.
-fn skip_zeros(b: &[u8], at: usize) -> usize
-    requires { ⌜ at ≤ length (now b) ⌝ }
-    ensures { λ r. ⌜ (r ≤ length (now (b .entry))) × (zeros (drop at (now (b .entry))) ≡ zeros (drop r (now (b .entry)))) ⌝ }
-{
-    let mut i = at;
-    while i + 256 <= b.len() && zero_block(b, i) {
-        i += 256;
-    }
-    i
-}
-
-// Whether i is among the last 256 bytes and these are zero.
-fn zero_end(b: &[u8], i: usize) -> bool
-    ensures { λ r. ⌜ (r ≡ true → zeros (drop i (now (b .entry))) ≡ true) ⌝ }
-{
-    if b.len() < 256 {
-        return false;
-    }
-    if i < b.len() - 256 {
-        return false;
-    }
-    zero_block(b, b.len() - 256)
-}
-
-// Whether all bytes from `at` on are zero.
-pub(crate) fn zeros_from(b: &[u8], at: usize) -> bool
-    requires { ⌜ at ≤ length (now b) ⌝ }
-    ensures { λ r. ⌜ r ≡ zeros (drop at (now (b .entry))) ⌝ }
-{
-    let mut i = skip_zeros(b, at);
-    if zero_end(b, i) {
-        return true;
-    }
-    while i < b.len() {
-        if b[i] != 0 {
-            return false;
-        }
-        i += 1;
-    }
-    true
 }
 
 // No place marked, of the most there can be.
@@ -227,7 +182,7 @@ pub(crate) fn all_used(
     translation: usize,
     t: usize,
 ) -> bool
-    requires { ⌜ (n ≤ 512) × (own ≤ n) × (subgraph + 4 * s ≤ length (now b)) × (translation + 4 * t ≤ length (now b)) ⌝ }
+    requires { ⌜ (n ≤ 512) × (own ≤ n) × (subgraph + pairLength * s ≤ length (now b)) × (translation + pairLength * t ≤ length (now b)) ⌝ }
     requires { ⌜ Under n (pairsAt s (drop subgraph (now b))) × Under n (pairsAt t (drop translation (now b))) ⌝ }
     ensures { λ r. ⌜ r ≡ every (isUsed own (pairsAt s (drop subgraph (now (b .entry)))) (pairsAt t (drop translation (now (b .entry))))) n ⌝ }
 {

@@ -6,5 +6,5 @@ fn main() {
     let mut space = io::large_buffer();
     let input: &mut [u8] = &mut space;
     let n = io::read_full(STDIN_FILENO, input);
-    report::program(text::part(input, 0, n));
+    test_report::program(text::part(input, 0, n));
 }

@@ -1,9 +1,9 @@
 // The exported functions, called on the byte strings that the list sets: the entries by number, in the order of their names in `main.rt`. What
 // comes out is compared with the numbers of a line, lent as the line has them, and with the byte strings that the outputs are to be.
-use listed::OUT;
-use listed::WANT;
-use listed::held;
-use listed::load;
+use test_list::OUT;
+use test_list::WANT;
+use test_list::held;
+use test_list::load;
 use test_records::edit_agrees;
 use test_records::record_agrees;
 use test_texts::question_agrees;

@@ -1,1 +1,2 @@
+-- What the replies are handed out as.
 pub mod Replies

@@ -1,4 +1,4 @@
--- What a path question's reply is handed out as: its number, and what the answer beside it then holds. Assumes nothing.
+-- What a path question's reply is handed out as: its number, and what the answer beside it then holds.
 use Prim.Native.Nat.{ℕ}
 use Rattle.path_bytes.specs.declared.Reply.{Reply}
 use Rattle.path_bytes.specs.declared.Reply.the-variants.{Refused, No, Yes}

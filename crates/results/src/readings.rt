@@ -2,7 +2,7 @@
 use parse::Answer;
 ghost use mathlib.Core.Path.{_≡_};
 ghost use Prim.Native.Nat.{_≤_};
-ghost use Rattle.parse.specs.Answers.{refusalIn};
+ghost use Rattle.parse.specs.Refusals.{refusalIn};
 
 // Hands out what a reading answers: the number, the line and the quoted part, or all 0.
 pub fn refusal_out(answer: Answer, line: &mut u64, start: &mut u64, length: &mut u64) -> u32
@@ -19,16 +19,11 @@ pub fn refusal_out(answer: Answer, line: &mut u64, start: &mut u64, length: &mut
             *length = 0;
             0
         }
-        Answer::Refused {
-            number: n,
-            line: l,
-            start: s,
-            size: k,
-        } => {
-            *line = l as u64;
-            *start = s as u64;
-            *length = k as u64;
-            n as u32
+        Answer::Refused(refusal) => {
+            *line = refusal.line as u64;
+            *start = refusal.start as u64;
+            *length = refusal.size as u64;
+            refusal.number as u32
         }
     }
 }

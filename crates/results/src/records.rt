@@ -4,7 +4,7 @@ use accessors::GivenCounts;
 use accessors::GivenPair;
 use accessors::GivenPart;
 ghost use mathlib.Core.Path.{_≡_};
-ghost use Rattle.model.specs.Questions.{numberOf, valueOr};
+ghost use Rattle.model.specs.Opening.{numberOf, valueOr};
 ghost use Rattle.model.specs.Values.{oneIf, isPresent, partStart, partSize, fromStart, fromSize, toStart, toSize};
 ghost use Rattle.accessors.specs.Answers.{countsGiven, partGiven, pairGiven, boolGiven};
 

@@ -3,7 +3,7 @@ use export::Tag;
 use export::Written;
 use export::WrittenTags;
 ghost use mathlib.Core.Path.{_≡_};
-ghost use Rattle.model.specs.Questions.{numberOf, valueOr};
+ghost use Rattle.model.specs.Opening.{numberOf, valueOr};
 ghost use Rattle.model.specs.Values.{isPresent, orZero};
 ghost use Rattle.export.specs.Answers.{sizeGiven, tagSize, tagsGiven};
 

@@ -11,9 +11,7 @@ use Rattle.model.specs.declared.Kind.{Kind}
 use Rattle.model.specs.declared.Kind.the-variants.{Subgraph, Translation}
 use Rattle.model.specs.Bytes.{Bytes}
 use Rattle.model.specs.Record.{GraphName}
-use Rattle.model.specs.Numbers.{number}
-use Rattle.model.specs.Layout.{nameAt, decode}
-use Rattle.record.specs.Test.{pairCount}
+use Rattle.model.specs.Layout.{nameCount, ownNumber, nameAt, decode, pairCount}
 use Rattle.record.proofs.Held.{Held}
 use Rattle.record.proofs.Laws.{decode-held}
 use Rattle.path_bytes.specs.declared.Reply.{Reply}
@@ -91,8 +89,8 @@ module _ (b c : Bytes) (firsts seconds ones twos : List ℕ) (a e : ℕ) (q : Qu
 -- ------------------------------------------------------------------ by the places of names
 
 module _ (b c : Bytes) (p q : ℕ) (named : Named b c p q) where
-  pub numberable : (firsts seconds ones twos : List ℕ) → number b 0 + number c 0 ≤ length firsts → length seconds ≡ length firsts → length ones ≡ length firsts → length twos ≡ length firsts
-      → Numberable b c (number b 0) (number c 0) firsts seconds ones twos
+  pub numberable : (firsts seconds ones twos : List ℕ) → nameCount b + nameCount c ≤ length firsts → length seconds ≡ length firsts → length ones ≡ length firsts → length twos ≡ length firsts
+      → Numberable b c (nameCount b) (nameCount c) firsts seconds ones twos
   numberable firsts seconds ones twos w x y z =
       let d = decode-held b (named .g) (named .first) in
       let e = decode-held c (named .h) (named .second) in
@@ -109,8 +107,8 @@ module _ (b c : Bytes) (p q : ℕ) (named : Named b c p q) where
         twos-room = omega arith;
       }
 
-  module _ (firsts seconds ones twos : List ℕ) (v : ℕ) (t : Numbered b c firsts seconds ones twos (number b 0) (number c 0) v)
-      (lf : number b 0 + number c 0 ≤ length firsts) (ls : length seconds ≡ length firsts) (lo : length ones ≡ length firsts) (lt : length twos ≡ length firsts) where
+  module _ (firsts seconds ones twos : List ℕ) (v : ℕ) (t : Numbered b c firsts seconds ones twos (nameCount b) (nameCount c) v)
+      (lf : nameCount b + nameCount c ≤ length firsts) (ls : length seconds ≡ length firsts) (lo : length ones ≡ length firsts) (lt : length twos ≡ length firsts) where
     d : Held b
     d = decode-held b (named .g) (named .first)
 
@@ -120,7 +118,7 @@ module _ (b c : Bytes) (p q : ℕ) (named : Named b c p q) where
     first-long : length (take v firsts) ≡ v
     first-long = length-take-le v firsts (omega (arith, t .few))
 
-    pub questioned : Questioned b c (take v firsts) (take v seconds) (take (number b 0) ones) (take (number c 0) twos) (getD ones p 0) (getD twos q 0)
+    pub questioned : Questioned b c (take v firsts) (take v seconds) (take (nameCount b) ones) (take (nameCount c) twos) (getD ones p 0) (getD twos q 0)
     questioned = record {
       g = named .g;
       h = named .h;
@@ -135,9 +133,9 @@ module _ (b c : Bytes) (p q : ℕ) (named : Named b c p q) where
         in-second = λ u l. rw (getD-take v seconds u 0 l) (omega (arith, t .seconds-in u l, e .count));
         held = λ u l. rw (getD-take v firsts u 0 l, getD-take v seconds u 0 l) (t .held u l);
       });
-      one = rw first-long (side-first b c firsts seconds ones twos (number b 0) (number c 0) v t (omega (arith, d .count)));
-      two = rw first-long (side-second b c firsts seconds ones twos (number b 0) (number c 0) v t (omega (arith, e .count)));
-      order = rw first-long (union-order b c firsts seconds ones twos (number b 0) (number c 0) v t);
+      one = rw first-long (side-first b c firsts seconds ones twos (nameCount b) (nameCount c) v t (omega (arith, d .count)));
+      two = rw first-long (side-second b c firsts seconds ones twos (nameCount b) (nameCount c) v t (omega (arith, e .count)));
+      order = rw first-long (union-order b c firsts seconds ones twos (nameCount b) (nameCount c) v t);
       few = rw first-long (omega (arith, t .few, d .count, e .count));
       from = rw first-long (t .ones-in p (named .from) .0);
       to = rw first-long (t .twos-in q (named .to) .0);
@@ -146,38 +144,38 @@ module _ (b c : Bytes) (p q : ℕ) (named : Named b c p q) where
     pub replies-from : (full : Bool) (out o : Bytes) (r : Reply) → RepliesTo full b c (naming b c (take v firsts) (take v seconds)) (getD ones p 0) (getD twos q 0) out r o
         → RepliesFrom full b c p q out r o
     replies-from full out o r right g h x y =
-        let m = side-first b c firsts seconds ones twos (number b 0) (number c 0) v t (omega (arith, d .count)) .named p (named .from) in
-        let n = side-second b c firsts seconds ones twos (number b 0) (number c 0) v t (omega (arith, e .count)) .named q (named .to) in
-        let i : nameOf (naming b c (take v firsts) (take v seconds)) (getD ones p 0) ≡ nameAt b p = rw (getD-take (number b 0) ones p 0 (named .from)) at m in
-        let j : nameOf (naming b c (take v firsts) (take v seconds)) (getD twos q 0) ≡ nameAt c q = rw (getD-take (number c 0) twos q 0 (named .to)) at n in
+        let m = side-first b c firsts seconds ones twos (nameCount b) (nameCount c) v t (omega (arith, d .count)) .named p (named .from) in
+        let n = side-second b c firsts seconds ones twos (nameCount b) (nameCount c) v t (omega (arith, e .count)) .named q (named .to) in
+        let i : nameOf (naming b c (take v firsts) (take v seconds)) (getD ones p 0) ≡ nameAt b p = rw (getD-take (nameCount b) ones p 0 (named .from)) at m in
+        let j : nameOf (naming b c (take v firsts) (take v seconds)) (getD twos q 0) ≡ nameAt c q = rw (getD-take (nameCount c) twos q 0 (named .to)) at n in
         rw (i, j) at (right g h x y)
 
 -- with the counts of names as the code has read them, and the own places
-module _ (b c : Bytes) (owned : Owned b c) (m n : ℕ) (em : m ≡ number b 0) (en : n ≡ number c 0) (firsts seconds ones twos : List ℕ)
-    (lf : number b 0 + number c 0 ≤ length firsts) (ls : length seconds ≡ length firsts) (lo : length ones ≡ length firsts) (lt : length twos ≡ length firsts) where
+module _ (b c : Bytes) (owned : Owned b c) (m n : ℕ) (em : m ≡ nameCount b) (en : n ≡ nameCount c) (firsts seconds ones twos : List ℕ)
+    (lf : nameCount b + nameCount c ≤ length firsts) (ls : length seconds ≡ length firsts) (lo : length ones ≡ length firsts) (lt : length twos ≡ length firsts) where
   pub numberable-read : Numberable b c m n firsts seconds ones twos
-  numberable-read = rw (em, en) (numberable b c (number b 2 - 1) (number c 2 - 1) (owned .named) firsts seconds ones twos lf ls lo lt)
+  numberable-read = rw (em, en) (numberable b c (ownNumber b - 1) (ownNumber c - 1) (owned .named) firsts seconds ones twos lf ls lo lt)
 
   module _ (v : ℕ) (t : Numbered b c firsts seconds ones twos m n v) where
-    exact : Numbered b c firsts seconds ones twos (number b 0) (number c 0) v
+    exact : Numbered b c firsts seconds ones twos (nameCount b) (nameCount c) v
     exact = rw (em, en) at t
 
-    module _ (p q : ℕ) (ep : p ≡ number b 2) (eq : q ≡ number c 2) where
+    module _ (p q : ℕ) (ep : p ≡ ownNumber b) (eq : q ≡ ownNumber c) where
       pub questioned-read : Questioned b c (take v firsts) (take v seconds) (take m ones) (take n twos) (getD ones (p - 1) 0) (getD twos (q - 1) 0)
-      questioned-read = rw (em, en, ep, eq) (questioned b c (number b 2 - 1) (number c 2 - 1) (owned .named) firsts seconds ones twos v exact lf ls lo lt)
+      questioned-read = rw (em, en, ep, eq) (questioned b c (ownNumber b - 1) (ownNumber c - 1) (owned .named) firsts seconds ones twos v exact lf ls lo lt)
 
       pub replies-read : (full : Bool) (out o : Bytes) (r : Reply) → RepliesTo full b c (naming b c (take v firsts) (take v seconds)) (getD ones (p - 1) 0) (getD twos (q - 1) 0) out r o
           → RepliesOwn full b c out r o
-      replies-read full out o r right = replies-from b c (number b 2 - 1) (number c 2 - 1) (owned .named) firsts seconds ones twos v exact lf ls lo lt full out o r (rw (ep, eq) at right)
+      replies-read full out o r right = replies-from b c (ownNumber b - 1) (ownNumber c - 1) (owned .named) firsts seconds ones twos v exact lf ls lo lt full out o r (rw (ep, eq) at right)
 
 -- ------------------------------------------------------------------ how large two records are
 
 -- how many names two records have, and where their own names are among them
 pub record Counted (b c : Bytes) : Type 0 where
-  pub first-few : number b 0 ≤ 512
-  pub second-few : number c 0 ≤ 512
-  pub from : number b 2 - 1 < number b 0
-  pub to : number c 2 - 1 < number c 0
+  pub first-few : nameCount b ≤ 512
+  pub second-few : nameCount c ≤ 512
+  pub from : ownNumber b - 1 < nameCount b
+  pub to : ownNumber c - 1 < nameCount c
 
 pub counted : (b c : Bytes) → Owned b c → Counted b c
 counted b c o = record {

@@ -9,16 +9,14 @@ use lib.ListN.{length, getD}
 use Rattle.model.specs.declared.Kind.{Kind}
 use Rattle.model.specs.declared.Kind.the-variants.{Subgraph, Translation}
 use Rattle.model.specs.Bytes.{Bytes}
-use Rattle.model.specs.Numbers.{number}
 use Rattle.model.specs.Record.{Pair, GraphName, comparePairs, insertAll}
-use Rattle.model.specs.Layout.{decode}
+use Rattle.model.specs.Layout.{nameCount, decode, pairCount, tableAt}
 use Rattle.model.specs.Questions.{pairsOf}
 use Rattle.model.specs.Path.{subgraphRelations, allRelations}
 use Rattle.model.specs.Statements.{Ascending}
 use Rattle.text.proofs.Order.{pairs-order}
 use Rattle.text.proofs.Ascending.{insertAll-ascending, insertAll-members}
 use Rattle.text.proofs.Places.{getD-member, member-getD}
-use Rattle.record.specs.Test.{pairCount, tableAt}
 use Rattle.record.proofs.Access.{record-pair, record-pairCount}
 use Rattle.paths.specs.Tables.{pairOf, related, Edges, Leaves, graph, edgesOf, target, InOrder, Holds}
 use Rattle.search.specs.Questions.{Side}
@@ -32,7 +30,7 @@ noPair = record { from = []; to = [] }
 -- ------------------------------------------------------------------ one record
 
 module _ (b : Bytes) (g : GraphName) (e : decode b ≡ some g) (size : ℕ) (numbers : List ℕ) (name : ℕ → Bytes)
-    (side : Side b (number b 0) size numbers name) (order : InOrder name size) (small : size ≤ 65536) (k : Kind) where
+    (side : Side b (nameCount b) size numbers name) (order : InOrder name size) (small : size ≤ 65536) (k : Kind) where
   leads-member : (v w : ℕ) → Leads b (tableAt k b) numbers (pairCount k b) v w → List·Memᴰ (pairOf (name v) (name w)) (pairsOf k g)
   leads-member v w l =
       let q = pair-named b g e size numbers name side order small k (l .0) (l .1) in
@@ -51,7 +49,7 @@ module _ (b : Bytes) (g : GraphName) (e : decode b ≡ some g) (size : ℕ) (num
 -- ------------------------------------------------------------------ two records
 
 module _ (b : Bytes) (g : GraphName) (d : decode b ≡ some g) (c : Bytes) (h : GraphName) (e : decode c ≡ some h) (size : ℕ) (ones twos : List ℕ)
-    (name : ℕ → Bytes) (one : Side b (number b 0) size ones name) (two : Side c (number c 0) size twos name) (order : InOrder name size) (small : size ≤ 65536) where
+    (name : ℕ → Bytes) (one : Side b (nameCount b) size ones name) (two : Side c (nameCount c) size twos name) (order : InOrder name size) (small : size ≤ 65536) where
   abbrev AllBuilt : Kind → Edges → Type 0
   AllBuilt k es = Built b (tableAt k b) ones (pairCount k b) c (tableAt k c) twos (pairCount k c) es
 

@@ -14,14 +14,12 @@ use Rattle.model.specs.declared.Kind.the-variants.{Subgraph, Translation}
 use Rattle.model.specs.declared.Order.{Order}
 use Rattle.model.specs.declared.Order.the-variants.{Less, Equal, Greater}
 use Rattle.model.specs.Bytes.{Bytes, byOrder, thenBy, compareNumbers, compareBytes}
-use Rattle.model.specs.Numbers.{number}
 use Rattle.model.specs.Record.{Pair, GraphName, comparePairs, names}
-use Rattle.model.specs.Layout.{nameAt, decode}
+use Rattle.model.specs.Layout.{fromPlace, nameCount, pairLength, toPlace, nameAt, decode, pairCount, tableAt}
 use Rattle.model.specs.Questions.{pairsOf}
 use Rattle.model.specs.Statements.{Ascending}
 use Rattle.text.proofs.Order.{bytes-order, pairs-order, opposite, compared-numbers}
 use Rattle.text.proofs.Places.{ascending-getD}
-use Rattle.record.specs.Test.{pairCount, tableAt}
 use Rattle.record.proofs.Names.{names-ascending}
 use Rattle.record.proofs.Laws.{decoded, decode-held}
 use Rattle.record.proofs.Access.{pairAt, record-count, record-name, record-pair, record-pairCount, pair-within}
@@ -33,7 +31,7 @@ use Rattle.union.specs.Keys.{keyAt, Sorted}
 use Rattle.union.proofs.Numbering.{name-first, name-second, name-same}
 
 -- the names of a record ascend
-pub record-rise : (b : Bytes) (g : GraphName) → decode b ≡ some g → NamesRise b (number b 0)
+pub record-rise : (b : Bytes) (g : GraphName) → decode b ≡ some g → NamesRise b (nameCount b)
 record-rise b g e p q l m =
     let n : q < length (names g) = omega (arith, record-count b g e) in
     rw (← record-name b g e p (omega arith), ← record-name b g e q m) (ascending-getD bytes-order [] (names g) p q (names-ascending g) l n)
@@ -107,16 +105,16 @@ keys-order u v x y l m e = go (compareNumbers u x) refl (compared-numbers u x) e
     go Greater d c f = absurd (let z : _≡_ {A = ℕ} 0 1 = cc in omega arith)
 
 module _ (b : Bytes) (g : GraphName) (e : decode b ≡ some g) (size : ℕ) (numbers : List ℕ) (name : ℕ → Bytes)
-    (side : Side b (number b 0) size numbers name) (order : InOrder name size) (small : size ≤ 65536) (k : Kind) where
+    (side : Side b (nameCount b) size numbers name) (order : InOrder name size) (small : size ≤ 65536) (k : Kind) where
   abbrev from : ℕ → ℕ
-  from p = getD numbers (number b (tableAt k b + 4 * p)) 0
+  from p = getD numbers (fromPlace b (tableAt k b + pairLength * p)) 0
 
   abbrev to : ℕ → ℕ
-  to p = getD numbers (number b (tableAt k b + 4 * p + 2)) 0
+  to p = getD numbers (toPlace b (tableAt k b + pairLength * p)) 0
 
   -- a pair by the names of its numbers
   pub pair-named : (p : ℕ) → p < pairCount k b
-      → (from p < size) × (to p < size) × (pairAt b (tableAt k b + 4 * p) ≡ record { from = name (from p); to = name (to p) })
+      → (from p < size) × (to p < size) × (pairAt b (tableAt k b + pairLength * p) ≡ record { from = name (from p); to = name (to p) })
   pair-named p l =
       let w = pair-within b g e k p l in (
         side .small _ (w .0),
@@ -149,6 +147,6 @@ module _ (b : Bytes) (g : GraphName) (e : decode b ≡ some g) (size : ℕ) (num
     small = λ p l. side .small p (omega (arith, side .count));
   }
     where
-      within : (k : Kind) → tableAt k b + 4 * pairCount k b ≤ length b
+      within : (k : Kind) → tableAt k b + pairLength * pairCount k b ≤ length b
       within Subgraph = let h = decode-held b g e in omega (arith, h .long, h .count, h .subgraphs, h .translations)
       within Translation = let h = decode-held b g e in omega (arith, h .long, h .count, h .subgraphs, h .translations)

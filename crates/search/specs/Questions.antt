@@ -1,5 +1,4 @@
 -- A question about two records, by the numbers of their names or by the places of the names, and the right reply to it.
--- Assumes nothing.
 use mathlib.Core.Path.{_≡_}
 use mathlib.Core.Bool.{Bool, cond}
 use mathlib.Core.List.{List}
@@ -7,9 +6,8 @@ use mathlib.Core.Option.{some}
 use Prim.Native.Nat.{ℕ, _-_, _<_}
 use lib.ListN.{length, getD}
 use Rattle.model.specs.Bytes.{Bytes}
-use Rattle.model.specs.Numbers.{number}
 use Rattle.model.specs.Record.{GraphName}
-use Rattle.model.specs.Layout.{nameAt, decode}
+use Rattle.model.specs.Layout.{nameCount, ownNumber, nameAt, decode}
 use Rattle.model.specs.Path.{Relations, subgraphRelations, allRelations, bestPath}
 use Rattle.model.specs.Outcome.{answered, sized}
 use Rattle.path_bytes.specs.declared.Reply.{Reply}
@@ -30,8 +28,8 @@ pub record Questioned (b c : Bytes) (firsts seconds ones twos : List ℕ) (a e :
   pub first : decode b ≡ some g
   pub second : decode c ≡ some h
   pub readable : Readable (naming b c firsts seconds) (length firsts)
-  pub one : Side b (number b 0) (length firsts) ones (nameOf (naming b c firsts seconds))
-  pub two : Side c (number c 0) (length firsts) twos (nameOf (naming b c firsts seconds))
+  pub one : Side b (nameCount b) (length firsts) ones (nameOf (naming b c firsts seconds))
+  pub two : Side c (nameCount c) (length firsts) twos (nameOf (naming b c firsts seconds))
   pub order : InOrder (nameOf (naming b c firsts seconds)) (length firsts)
   pub few : length firsts < 65536
   pub from : a < length firsts
@@ -53,8 +51,8 @@ pub record Named (b c : Bytes) (p q : ℕ) : Type 0 where
   pub h : GraphName
   pub first : decode b ≡ some g
   pub second : decode c ≡ some h
-  pub from : p < number b 0
-  pub to : q < number c 0
+  pub from : p < nameCount b
+  pub to : q < nameCount c
 
 -- the right reply to a question from the name at place p of b to that at place q of c
 abbrev pub RepliesFrom : Bool → Bytes → Bytes → ℕ → ℕ → Bytes → Reply → Bytes → Type 0
@@ -64,10 +62,10 @@ RepliesFrom full b c p q out r o =
 
 -- two records with own names
 pub record Owned (b c : Bytes) : Type 0 where
-  pub own : 0 < number b 2
-  pub other : 0 < number c 2
-  pub named : Named b c (number b 2 - 1) (number c 2 - 1)
+  pub own : 0 < ownNumber b
+  pub other : 0 < ownNumber c
+  pub named : Named b c (ownNumber b - 1) (ownNumber c - 1)
 
 -- the right reply to a question from the own name of b to that of c
 abbrev pub RepliesOwn : Bool → Bytes → Bytes → Bytes → Reply → Bytes → Type 0
-RepliesOwn full b c out r o = RepliesFrom full b c (number b 2 - 1) (number c 2 - 1) out r o
+RepliesOwn full b c out r o = RepliesFrom full b c (ownNumber b - 1) (ownNumber c - 1) out r o

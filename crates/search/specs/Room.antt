@@ -1,12 +1,12 @@
--- How large the tables of a question are: lent tables whose lengths only the caller knows. Assumes nothing.
+-- How large the tables of a question are: lent tables whose lengths only the caller knows.
 use mathlib.Core.Path.{_≡_}
 use mathlib.Core.List.{List}
 use Prim.Native.Nat.{ℕ, _+_, _≤_}
 use lib.ListN.{length}
 use Rattle.model.specs.declared.Kind.{Kind}
 use Rattle.model.specs.Bytes.{Bytes}
-use Rattle.model.specs.Numbers.{number}
-use Rattle.record.specs.Test.{pairCount}
+use Rattle.model.specs.declared.Kind.the-variants.{Subgraph, Translation}
+use Rattle.model.specs.Layout.{nameCount, pairCount}
 
 -- two records have at most so many pairs of each kind together
 abbrev pub PairsWithin : Bytes → Bytes → ℕ → Type 0
@@ -14,9 +14,9 @@ PairsWithin b c pairs = (k : Kind) → pairCount k b + pairCount k c ≤ pairs
 
 -- two records have at most so many names together, and so many pairs of each kind
 pub record Within (b c : Bytes) (names pairs : ℕ) : Type 0 where
-  pub names-fit : number b 0 + number c 0 ≤ names
-  pub subgraphs-fit : number b 4 + number c 4 ≤ pairs
-  pub translations-fit : number b 6 + number c 6 ≤ pairs
+  pub names-fit : nameCount b + nameCount c ≤ names
+  pub subgraphs-fit : pairCount Subgraph b + pairCount Subgraph c ≤ pairs
+  pub translations-fit : pairCount Translation b + pairCount Translation c ≤ pairs
 
 -- tables for n names
 pub record NameTables (n : ℕ) (seconds ones twos starts ends starts′ ends′ nodes parents kinds places : List ℕ) : Type 0 where

@@ -1,4 +1,4 @@
--- How far the reading of a line's fields has come, and what one field more makes of it. Assumes nothing.
+-- How far the reading of a line's fields has come, and what one field more makes of it.
 use mathlib.Core.Path.{_≡_, refl, sym, ap, _∙_}
 use mathlib.Core.Bool.{Bool, true, false, cond, _&&_}
 use mathlib.Core.List.{List, [], _∷_}

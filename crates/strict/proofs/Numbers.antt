@@ -1,5 +1,4 @@
 -- A number read byte by byte has the test of its expression: each state has a test of what may follow, and a byte leads from one to the next.
--- Assumes nothing.
 use mathlib.Core.Path.{_≡_, refl, sym, ap, _∙_}
 use mathlib.Core.Bool.{Bool, true, false, cond, _&&_, _||_, false≢true, and-eq-true-iff, and-true, and-false, or-false, or-assoc, or-comm, or-self}
 use mathlib.Core.List.{[], _∷_}

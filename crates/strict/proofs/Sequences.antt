@@ -1,4 +1,4 @@
--- How the test by derivatives goes through sequences, choices and repetitions. Assumes nothing.
+-- How the test by derivatives goes through sequences, choices and repetitions.
 use mathlib.Core.Path.{_≡_, refl, sym, ap, _∙_, subst}
 use mathlib.Core.Logic.{inl, inr, ⊎-elim}
 use mathlib.Core.Bool.{Bool, true, false, cond, _&&_, _||_, and-or-distrib-right}

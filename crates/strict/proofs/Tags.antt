@@ -1,4 +1,4 @@
--- The table of tags: two letters have a place of their own, and its entry tells whether the tag was seen. Assumes nothing.
+-- The table of tags: two letters have a place of their own, and its entry tells whether the tag was seen.
 use mathlib.Core.Path.{_≡_, refl, sym, ap, _∙_}
 use mathlib.Core.Logic.{_⊎_, inl, inr, ⊎-elim}
 use mathlib.Core.Bool.{Bool, true, false, cond, _&&_, _||_, not, false≢true}

@@ -1,4 +1,4 @@
--- The tests of values in the terms of the code: one byte, a run of bytes of a class, a number, a list. Assumes nothing.
+-- The tests of values in the terms of the code: one byte, a run of bytes of a class, a number, a list.
 use mathlib.Core.Path.{_≡_, refl, sym, _∙_}
 use mathlib.Core.Logic.{_⊎_, inl, inr, ⊎-elim}
 use mathlib.Core.Bool.{Bool, true, false, cond, _&&_, _||_, and-false, and-assoc, and-or-distrib-right}

@@ -1,4 +1,4 @@
--- The classes of a byte as the digits of one number to the base 2, and a byte among others. Assumes nothing.
+-- The classes of a byte as the digits of one number to the base 2, and a byte among others.
 use mathlib.Core.Path.{_≡_}
 use mathlib.Core.Bool.{Bool, true, false, _&&_, _||_}
 use mathlib.Core.List.{[], _∷_}

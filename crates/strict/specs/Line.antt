@@ -1,4 +1,4 @@
--- The fields of a line that stand after a place. Assumes nothing.
+-- The fields of a line that stand after a place.
 use mathlib.Core.Bool.{cond}
 use mathlib.Core.List.{List, []}
 use Prim.Native.Nat.{ℕ, _+_}

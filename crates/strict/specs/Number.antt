@@ -1,4 +1,4 @@
--- Numbers read byte by byte: the states of the reading, and what each byte makes of them. Assumes nothing.
+-- Numbers read byte by byte: the states of the reading, and what each byte makes of them.
 use mathlib.Core.Bool.{Bool, true, false, cond, _&&_}
 use mathlib.Core.List.{[], _∷_}
 use Prim.Native.Nat.{ℕ}

@@ -1,4 +1,4 @@
--- The place of a tag in the table of tags seen. Assumes nothing.
+-- The place of a tag in the table of tags seen.
 use mathlib.Core.Bool.{cond}
 use Prim.Native.Nat.{ℕ, _+_, _-_, _*_}
 use lib.Dec.{ltb}

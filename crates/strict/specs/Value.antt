@@ -1,4 +1,4 @@
--- Values that are one or more bytes of a class: the class, by the type. Assumes nothing.
+-- Values that are one or more bytes of a class: the class, by the type.
 use mathlib.Core.Bool.{cond, _||_}
 use Prim.Native.Nat.{ℕ}
 use lib.Dec.{eqb}

@@ -20,19 +20,19 @@ body-old pool name at r h k =
     ∙ sym (part-front (take at pool) (drop at pool) (r / 65536) (r % 65536) (omega arith))
     ∙ ap (λ (b : Bytes). bodyIn b r) (take-append-drop at pool)
 
--- the number of a body
-pub start-of : (at m : ℕ) → m < 65536 → (at * 65536 + m) / 65536 ≡ at
-start-of at m h = omega arith
+-- the two that a number stands for: start and length of a body, or the places of a pair
+pub first-of : (at m : ℕ) → m < 65536 → (at * 65536 + m) / 65536 ≡ at
+first-of at m h = omega arith
 
-pub size-of : (at m : ℕ) → m < 65536 → (at * 65536 + m) % 65536 ≡ m
-size-of at m h = omega arith
+pub second-of : (at m : ℕ) → m < 65536 → (at * 65536 + m) % 65536 ≡ m
+second-of at m h = omega arith
 
 pub body-new : (pool name : Bytes) (at : ℕ) → at ≤ length pool → length name < 65536 → bodyIn (put pool at name) (at * 65536 + length name) ≡ name
 unfolding put
 body-new pool name at h k =
     rw (
-      start-of at (length name) k,
-      size-of at (length name) k,
+      first-of at (length name) k,
+      second-of at (length name) k,
       drop-at (take at pool) (name ++ drop (at + length name) pool) at (length-take-le at pool h),
     )
     (take-append-seam name (drop (at + length name) pool))

@@ -27,7 +27,7 @@ use Rattle.text.proofs.Ascending.{insert-members, insert-ascending, insert-pres
 use Rattle.tables.specs.Sorted.{lower}
 use Rattle.tables.specs.Tables.{Tables, namesIn, tableNames, graphIn, readOut, placesOf, pairsIn, holdsAt, NamePut, PairPut, Storable}
 use Rattle.tables.specs.declared.putting.Sizes.{Sizes}
-use Rattle.tables.specs.Judging.{owned, ownIf, namesAnd, countFault, sizeFault, NamesKept, Good, Ready}
+use Rattle.tables.specs.Judging.{owned, ownIf, namesAnd, countFault, sizeFault, outcome, NamesKept, Good, Complete}
 use Rattle.tables.proofs.Lower.{lower-le, insert-new, insert-there}
 use Rattle.tables.proofs.Splice.{length-spliced, length-bodies-spliced}
 use Rattle.tables.proofs.Search.{length-names}
@@ -155,7 +155,7 @@ module _ (refs : List ℕ) (pool : Bytes) (sizes : Sizes) (k : NamesKept refs po
 
 -- ------------------------------------------------------------------ what is stored
 
-module _ (t : Tables) (own : ℕ) (r : Ready t own) where
+module _ (t : Tables) (own : ℕ) (r : Complete t own) where
   abbrev g : GraphName
   g = meaning (readOut t own)
 
@@ -165,9 +165,9 @@ module _ (t : Tables) (own : ℕ) (r : Ready t own) where
   count-names : length (tableNames t) ≡ t .sizes .names
   count-names = length-names (t .pool) (t .sizes .names) (t .refs) (r .kept .count)
 
-  judge-ready : judge g ≡ fault
+  judge-complete : judge g ≡ fault
   unfolding judge countFault
-  judge-ready =
+  judge-complete =
       rw (
         r .used,
         r .kept .short,
@@ -177,9 +177,9 @@ module _ (t : Tables) (own : ℕ) (r : Ready t own) where
         length-shown (tableNames t) (t .sizes .translation) (t .trans) (r .kept .translation .within),
       )
 
-  pub ready-storable : fault ≡ 0 → Storable t own
-  ready-storable e =
-      let s = judge-sizes g (judge-ready ∙ e) in
+  pub complete-storable : fault ≡ 0 → Storable t own
+  complete-storable e =
+      let s = judge-sizes g (judge-complete ∙ e) in
       let n = ap length (r .used) ∙ count-names in
       let b = ap (λ (ns : List Bytes). length (bodies ns)) (r .used) in
       let ls = length-shown (tableNames t) (t .sizes .subgraph) (t .subs) (r .kept .subgraph .within) in
@@ -194,11 +194,11 @@ module _ (t : Tables) (own : ℕ) (r : Ready t own) where
         used = r .used;
       }
 
-  pub kept-stored : (b : Bytes) → fault ≡ 0 → keptOr b g ≡ record { number = 0; buffer = encode g }
-  kept-stored b e = rw (eq-eqb (judge g) 0 (judge-ready ∙ e))
+  pub kept-stored : (b : Bytes) → fault ≡ 0 → keptOr b g ≡ outcome 0 (encode g)
+  kept-stored b e = rw (eq-eqb (judge g) 0 (judge-complete ∙ e))
 
-  pub kept-refused : (b : Bytes) → (fault ≡ 0 → ⊥) → keptOr b g ≡ record { number = fault; buffer = b }
-  kept-refused b n = rw (ne-eqb (judge g) 0 (λ e. n (sym judge-ready ∙ e)), judge-ready)
+  pub kept-refused : (b : Bytes) → (fault ≡ 0 → ⊥) → keptOr b g ≡ outcome fault b
+  kept-refused b n = rw (ne-eqb (judge g) 0 (λ e. n (sym judge-complete ∙ e)), judge-complete)
 
 -- a pair put in uses its names
 owned-pair : (own : Option Bytes) (kind : Kind) (p : Pair) (g : GraphName) → owned own (withPair kind p g) ≡ withPair kind p (owned own g)
@@ -218,9 +218,9 @@ good-put own kind t u from to g put =
           ∙ sym (put .names);
     }
 
--- tables whose names are all used are ready with no own name, and with one that was put in
-pub ready-without : (t : Tables) → Good none t → Ready t 0
-ready-without t g = record { kept = g .kept; own-within = omega arith; used = g .used }
+-- tables whose names are all used are complete with no own name, and with one that was put in
+pub complete-without : (t : Tables) → Good none t → Complete t 0
+complete-without t g = record { kept = g .kept; own-within = omega arith; used = g .used }
 
 module _ (t u : Tables) (own : Bytes) (p : ℕ) (put : NamePut t own u p) where
   at-place : (p < length (tableNames u)) × (nameIn (tableNames u) p ≡ own)
@@ -229,8 +229,8 @@ module _ (t u : Tables) (own : Bytes) (p : ℕ) (put : NamePut t own u p) where
   pub meaning-own : meaning (readOut u (p + 1)) ≡ owned (some own) (graphIn t)
   meaning-own = rw (add-one p, at-place .1) (ap (owned (some own)) (put .graph))
 
-  pub ready-own : Good none t → Ready u (p + 1)
-  ready-own good =
+  pub complete-own : Good none t → Complete u (p + 1)
+  complete-own good =
       let n = length-names (u .pool) (u .sizes .names) (u .refs) (put .kept .count) in
       record {
         kept = put .kept;
@@ -254,7 +254,7 @@ module _ (t : Tables) (own : Bytes) (p : ℕ) (good : Good (some own) t) (place 
   pub meaning-placed : meaning (readOut t (p + 1)) ≡ owned (some own) (graphIn t)
   meaning-placed = rw (add-one p, placed .1)
 
-  pub ready-placed : Ready t (p + 1)
-  ready-placed =
+  pub complete-placed : Complete t (p + 1)
+  complete-placed =
       let n = length-names (t .pool) (t .sizes .names) (t .refs) (good .kept .count) in
       record { kept = good .kept; own-within = omega (arith, placed .0); used = ap names meaning-placed ∙ good .used }

@@ -1,3 +1,4 @@
+-- Ascending numbers and what is put into them, the tables stored and loaded, and the sizes judged.
 pub mod Gap
 pub mod Lower
 pub mod Splice
@@ -10,5 +11,6 @@ pub mod PutName
 pub mod PutPair
 pub mod Writing
 pub mod Stored
-pub mod Total
 pub mod Judge
+pub mod Records
+pub mod Loaded

@@ -27,7 +27,7 @@ use Rattle.tables.proofs.Splice.{length-spliced, spliced-member, map-sp
 use Rattle.tables.proofs.Front.{take-front}
 use Rattle.tables.proofs.Renumber.{renumbered-ascending, renumbered-under, renumbered-pairs}
 use Rattle.tables.proofs.Search.{length-names, name-at, name-equal}
-use Rattle.tables.proofs.Bodies.{bodies-old, body-new, start-of, size-of}
+use Rattle.tables.proofs.Bodies.{bodies-old, body-new, first-of, second-of}
 
 -- what stands at a place, from the test
 pub holds-true : (ns : List Bytes) (p : ℕ) (name : Bytes) → holdsAt ns p name ≡ true → (p < length ns) × (nameIn ns p ≡ name)
@@ -170,7 +170,7 @@ module _ (t : Tables) (name : Bytes) (k : Kept t) (r : NameRoom t name) (p : ℕ
       let h = p-le in
       let s = r .short in
       ⊎-elim
-      (λ (e : x ≡ ref). rw (e, start-of at (length name) (omega arith), size-of at (length name) (omega arith)) (omega arith))
+      (λ (e : x ≡ ref). rw (e, first-of at (length name) (omega arith), second-of at (length name) (omega arith)) (omega arith))
       (λ (o : List·Memᴰ x (take n (t .refs))). omega (arith, k .within x o))
       (spliced-member ref p (take n (t .refs)) x (omega arith) (rw first-refs at m))
 

@@ -23,9 +23,10 @@ use Rattle.text.proofs.Ascending.{insert-ascending, insert-member}
 use Rattle.text.proofs.Places.{ascending-places}
 use Rattle.tables.specs.Sorted.{lower, spliced, placeAfter}
 use Rattle.tables.specs.Tables.{Tables, tables, tableNames, graphIn, placesOf, pairsIn, holdsAt, KeptPairs, NameRoom, PairRoom, NamePut, PairPut}
+use Rattle.tables.proofs.Bodies.{first-of, second-of}
 use Rattle.tables.proofs.Lower.{lower-le, insert-new, insert-there}
 use Rattle.tables.proofs.Splice.{length-spliced}
-use Rattle.tables.proofs.Renumber.{Small, above-le, small-member, name-up}
+use Rattle.tables.proofs.Renumber.{Small, above-le, small-member, name-raised}
 use Rattle.tables.proofs.Search.{length-names}
 use Rattle.tables.proofs.Pairs.{insert-map}
 use Rattle.tables.proofs.PutName.{holds-true, holds-false}
@@ -74,7 +75,7 @@ place-after name ns i a h = ⊎-elim same more (grown-or-not name ns a)
         let l = lower-le compareBytes name ns in
         let u = above-le (lower compareBytes name ns) i in
         rw (e, length-spliced name (lower compareBytes name ns) ns l, ne-eqb (length ns) (suc (length ns)) (λ d. omega arith))
-        (omega arith, name-up name (lower compareBytes name ns) ns i l)
+        (omega arith, name-raised name (lower compareBytes name ns) ns i l)
 
 same-after : (i : ℕ) {m n p m′ n′ p′ : ℕ} → m ≡ m′ → n ≡ n′ → p ≡ p′ → placeAfter m n p i ≡ placeAfter m′ n′ p′ i
 same-after i d e f = rw (d, e, f)
@@ -174,9 +175,8 @@ module _ (t u w : Tables) (from to : Bytes) (a b x : ℕ) (first : NamePut t fro
   pair-of : pairIn ns (placesOf (x * 65536 + b)) ≡ record { from = from; to = to }
   pair-of =
       let s = places-small in
-      let d : (x * 65536 + b) / 65536 ≡ x = omega arith in
-      let m : (x * 65536 + b) % 65536 ≡ b = omega arith in
-      rw (d, m) (λ i. record { from = from-place .1 i; to = to-place .1 i })
+      let h : b < 65536 = omega arith in
+      rw (first-of x b h, second-of x b h) (λ i. record { from = from-place .1 i; to = to-place .1 i })
 
   small : Small (length ns) (x * 65536 + b)
   small = let s = places-small in let n = count-second in (omega arith, omega arith)

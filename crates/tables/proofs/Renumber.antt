@@ -26,8 +26,8 @@ use Rattle.tables.specs.Tables.{placesOf, pairsIn}
 use Rattle.tables.proofs.Splice.{getD-before, getD-behind}
 
 -- a place after a name came in at place p
-abbrev pub up : ℕ → ℕ → ℕ
-up p q = q + above p q
+abbrev pub raised : ℕ → ℕ → ℕ
+raised p q = q + above p q
 
 -- n is what q goes up by, by cases
 abbrev Raises : ℕ → ℕ → ℕ → Type 0
@@ -43,10 +43,10 @@ raises p q = go (leb p q) refl
 pub above-le : (p q : ℕ) → above p q ≤ 1
 above-le p q = ⊎-elim (λ (e : (p ≤ q) × (above p q ≡ 1)). omega arith) (λ (e : (q < p) × (above p q ≡ 0)). omega arith) (raises p q)
 
-up-less : (p q r : ℕ) → q < r → up p q < up p r
-up-less p q r h = go (raises p q) (raises p r)
+raised-less : (p q r : ℕ) → q < r → raised p q < raised p r
+raised-less p q r h = go (raises p q) (raises p r)
   where
-    go : Raises p q (above p q) → Raises p r (above p r) → up p q < up p r
+    go : Raises p q (above p q) → Raises p r (above p r) → raised p q < raised p r
     go (inl a) (inl b) = omega arith
     go (inl a) (inr b) = omega arith
     go (inr a) (inl b) = omega arith
@@ -64,7 +64,7 @@ quotient x a b h = omega arith
 remainder : (x a b : ℕ) → x % 65536 + b < 65536 → (x + 65536 * a + b) % 65536 ≡ x % 65536 + b
 remainder x a b h = omega arith
 
-pub renumbered-places : (p x : ℕ) → Small 65535 x → placesOf (renumbered p x) ≡ (up p (x / 65536), up p (x % 65536))
+pub renumbered-places : (p x : ℕ) → Small 65535 x → placesOf (renumbered p x) ≡ (raised p (x / 65536), raised p (x % 65536))
 unfolding renumbered
 renumbered-places p x s =
     let h = above-le p (x % 65536) in
@@ -78,13 +78,13 @@ renumbered-less p x y s t h =
     let k = ap (λ (z : ℕ × ℕ). z .1) (renumbered-places p y t) in
     go (ltb (x / 65536) (y / 65536)) refl e f g k
   where
-    go : (b : Bool) → ltb (x / 65536) (y / 65536) ≡ b → renumbered p x / 65536 ≡ up p (x / 65536) → renumbered p x % 65536 ≡ up p (x % 65536)
-        → renumbered p y / 65536 ≡ up p (y / 65536) → renumbered p y % 65536 ≡ up p (y % 65536) → renumbered p x < renumbered p y
-    go true d e f g k = let u = up-less p (x / 65536) (y / 65536) (ltb-true _ _ d) in omega arith
+    go : (b : Bool) → ltb (x / 65536) (y / 65536) ≡ b → renumbered p x / 65536 ≡ raised p (x / 65536) → renumbered p x % 65536 ≡ raised p (x % 65536)
+        → renumbered p y / 65536 ≡ raised p (y / 65536) → renumbered p y % 65536 ≡ raised p (y % 65536) → renumbered p x < renumbered p y
+    go true d e f g k = let u = raised-less p (x / 65536) (y / 65536) (ltb-true _ _ d) in omega arith
     go false d e f g k =
         let same : x / 65536 ≡ y / 65536 = omega (arith, ltb-false (x / 65536) (y / 65536) d) in
-        let also = ap (up p) same in
-        let u = up-less p (x % 65536) (y % 65536) (omega arith) in
+        let also = ap (raised p) same in
+        let u = raised-less p (x % 65536) (y % 65536) (omega arith) in
         omega arith
 
 -- numbers that are ordered alike compare alike
@@ -117,15 +117,15 @@ renumbered-ascending p xs u a =
     (ascends-map compareNumbers compareNumbers (renumbered p) xs (λ x y m k. renumbered-compare p x y (small-member _ xs x u m) (small-member _ xs y u k))
     ∙ ascends-true compareNumbers xs .1 a)
 
-up-le : (p q : ℕ) → up p q ≤ q + 1
-up-le p q = omega (arith, above-le p q)
+raised-le : (p q : ℕ) → raised p q ≤ q + 1
+raised-le p q = omega (arith, above-le p q)
 
 pub renumbered-under : (p n : ℕ) (xs : List ℕ) → n < 65536 → Under n (map placesOf xs) → Under (n + 1) (map placesOf (map (renumbered p) xs))
 unfolding Under
 renumbered-under p n [] h u = tt
 renumbered-under p n (x ∷ xs) h u =
-    let s = up-le p (x / 65536) in
-    let t = up-le p (x % 65536) in
+    let s = raised-le p (x / 65536) in
+    let t = raised-le p (x % 65536) in
     let e = renumbered-places p x (omega arith, omega arith) in (
       rw (ap (λ (z : ℕ × ℕ). z .0) e) (omega arith),
       rw (ap (λ (z : ℕ × ℕ). z .1) e) (omega arith),
@@ -133,8 +133,8 @@ renumbered-under p n (x ∷ xs) h u =
     )
 
 -- the name at the new place is the name that stood at the old one
-pub name-up : (a : Bytes) (p : ℕ) (ns : List Bytes) (q : ℕ) → p ≤ length ns → nameIn (spliced p a ns) (up p q) ≡ nameIn ns q
-name-up a p ns q h =
+pub name-raised : (a : Bytes) (p : ℕ) (ns : List Bytes) (q : ℕ) → p ≤ length ns → nameIn (spliced p a ns) (raised p q) ≡ nameIn ns q
+name-raised a p ns q h =
     ⊎-elim
     (λ (c : (p ≤ q) × (above p q ≡ 1)). rw (c .1, add-one q) (getD-behind a [] p ns q h (c .0)))
     (λ (c : (q < p) × (above p q ≡ 0)). rw (c .1, add-zero q) (getD-before a [] p ns q h (c .0)))
@@ -146,5 +146,5 @@ unfolding Under
 renumbered-pairs a p n ns [] h k u = refl
 renumbered-pairs a p n ns (x ∷ xs) h k u =
     let e = renumbered-places p x (omega arith, omega arith) in
-    ap₂ _∷_ (ap (pairIn (spliced p a ns)) e ∙ (λ i. record { from = name-up a p ns (x / 65536) h i; to = name-up a p ns (x % 65536) h i }))
+    ap₂ _∷_ (ap (pairIn (spliced p a ns)) e ∙ (λ i. record { from = name-raised a p ns (x / 65536) h i; to = name-raised a p ns (x % 65536) h i }))
     (renumbered-pairs a p n ns xs h k (u .2))

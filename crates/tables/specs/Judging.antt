@@ -1,4 +1,4 @@
--- The sizes that tables are judged by, with an own name kept apart; and what is ready to be stored. Assumes nothing.
+-- The sizes that tables are judged by, with an own name kept apart; and what can be stored.
 use mathlib.Core.Path.{_≡_}
 use mathlib.Core.Bool.{Bool, true, false, cond, _||_}
 use mathlib.Core.List.{List}
@@ -8,6 +8,7 @@ use lib.ListN.{length}
 use lib.Dec.{ltb}
 use Rattle.model.specs.Bytes.{Bytes, compareBytes}
 use Rattle.model.specs.Record.{GraphName, insert, names, anyLong, bodies}
+use Rattle.model.specs.Outcome.{Outcome}
 use Rattle.model.specs.Statements.{Ascending}
 use Rattle.record.specs.Coded.{meaning}
 use Rattle.tables.specs.declared.putting.Sizes.{Sizes}
@@ -36,6 +37,10 @@ countFault count bytes subgraph translation =
 abbrev pub sizeFault : List Bytes → ℕ → ℕ → ℕ
 sizeFault ns subgraph translation = cond (anyLong ns) 11 (countFault (length ns) (length (bodies ns)) subgraph translation)
 
+-- a number, and what the buffer holds then
+abbrev pub outcome : ℕ → Bytes → Outcome
+outcome number buffer = record { number = number; buffer = buffer }
+
 -- what is known of the names of tables
 pub record NamesKept (refs : List ℕ) (pool : Bytes) (sizes : Sizes) : Type 0 where
   pub order : Ascending compareBytes (namesIn pool (sizes .names) refs)
@@ -50,7 +55,7 @@ pub record Good (own : Option Bytes) (t : Tables) : Type 0 where
   pub used : names (owned own (graphIn t)) ≡ tableNames t
 
 -- the tables, with the own name of this number, are those of a graph name
-pub record Ready (t : Tables) (own : ℕ) : Type 0 where
+pub record Complete (t : Tables) (own : ℕ) : Type 0 where
   pub kept : Kept t
   pub own-within : own ≤ t .sizes .names
   pub used : names (meaning (readOut t own)) ≡ tableNames t

@@ -1,5 +1,4 @@
 -- Ascending lists by place: where an element stands or would stand, and putting one in there. And places after a name came in.
--- Assumes nothing.
 use mathlib.Core.Bool.{cond}
 use mathlib.Core.List.{List, [], _∷_, _++_}
 use Prim.Native.Nat.{ℕ, suc, _+_, _*_, _/_, _%_}

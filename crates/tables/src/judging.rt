@@ -6,11 +6,11 @@ use crate::storing::store;
 ghost use mathlib.Core.Path.{_≡_};
 ghost use Prim.Native.Nat.{_+_, _<_};
 ghost use lib.ListN.{length};
-ghost use Rattle.model.specs.Numbers.{number};
+ghost use Rattle.model.specs.Layout.{recordLength};
 ghost use Rattle.model.specs.Outcome.{keptOr};
 ghost use Rattle.record.specs.Coded.{meaning};
 ghost use Rattle.tables.specs.Tables.{tables, namesIn, readOut};
-ghost use Rattle.tables.specs.Judging.{ownIf, namesAnd, countFault, sizeFault, NamesKept, Ready};
+ghost use Rattle.tables.specs.Judging.{ownIf, namesAnd, countFault, sizeFault, outcome, NamesKept, Complete};
 
 // The first of the sizes that is over its limit: names, pairs of either kind, bytes. Or 0.
 fn count_fault(names: usize, bytes: usize, subgraph: usize, translation: usize) -> u32
@@ -28,14 +28,14 @@ fn count_fault(names: usize, bytes: usize, subgraph: usize, translation: usize) 
     if 22520 < bytes { 14 } else { 0 }
 }
 
-// The number for the sizes of the graph name that the tables show, with an own name beside them if `named`. Where there is room for
+// The number for the sizes of the graph name that the tables show, with an own name beside them if `has_name`. Where there is room for
 // one more, it need not be looked for.
-pub fn judged(refs: &[u32], pool: &[u8], sizes: Sizes, named: bool, own: &[u8]) -> u32
+pub fn size_fault(refs: &[u32], pool: &[u8], sizes: Sizes, has_name: bool, own: &[u8]) -> u32
     requires { ⌜ NamesKept (now refs) (now pool) sizes ⌝ }
-    ensures { λ r. ⌜ r ≡ sizeFault (namesAnd (ownIf named (now (own .entry))) (namesIn (now (pool .entry)) (sizes .names) (now (refs .entry)))) (sizes .subgraph) (sizes .translation) ⌝ }
+    ensures { λ r. ⌜ r ≡ sizeFault (namesAnd (ownIf «has_name» (now (own .entry))) (namesIn (now (pool .entry)) (sizes .names) (now (refs .entry)))) (sizes .subgraph) (sizes .translation) ⌝ }
 {
     let n = sizes.names;
-    if !named {
+    if !has_name {
         return count_fault(n, sizes.bytes, sizes.subgraph, sizes.translation);
     }
     if 256 < own.len() {
@@ -62,9 +62,8 @@ pub fn keep(
     sizes: Sizes,
     own: usize,
 ) -> u32
-    requires { ⌜ Ready (tables (now refs) (now subs) (now trans) (now pool) sizes) own × (length (now buffer) ≡ 32768) ⌝ }
-    ensures { λ r. ⌜ r ≡ keptOr (now (buffer .entry)) (meaning (readOut (tables (now (refs .entry)) (now (subs .entry)) (now (trans .entry)) (now (pool .entry)) sizes) own)) .number ⌝ }
-    ensures { λ _. ⌜ now (buffer .exit) ≡ keptOr (now (buffer .entry)) (meaning (readOut (tables (now (refs .entry)) (now (subs .entry)) (now (trans .entry)) (now (pool .entry)) sizes) own)) .buffer ⌝ }
+    requires { ⌜ Complete (tables (now refs) (now subs) (now trans) (now pool) sizes) own × (length (now buffer) ≡ recordLength) ⌝ }
+    ensures { λ r. ⌜ outcome r (now (buffer .exit)) ≡ keptOr (now (buffer .entry)) (meaning (readOut (tables (now (refs .entry)) (now (subs .entry)) (now (trans .entry)) (now (pool .entry)) sizes) own)) ⌝ }
 {
     let fault = count_fault(sizes.names, sizes.bytes, sizes.subgraph, sizes.translation);
     if fault != 0 {

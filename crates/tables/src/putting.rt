@@ -20,8 +20,8 @@ pub struct Sizes {
     pub translation: usize,
 }
 
-// A place in the tables, and how much of them is in use.
-pub struct Placed {
+// The place of a name in the tables, and how much of them is in use.
+pub struct PlacedName {
     pub place: usize,
     pub sizes: Sizes,
 }
@@ -30,46 +30,6 @@ pub struct Placed {
 pub struct Sought {
     pub place: usize,
     pub there: bool,
-}
-
-// A table with room for the names of two full records and four more.
-pub fn name_table() -> [u32; 1028]
-    ensures { λ r. ⌜ length r ≡ 1028 ⌝ }
-{
-    [0; 1028]
-}
-
-// A table with room for the pairs of one kind of two full records and two more.
-pub fn pair_table() -> [u32; 2050]
-    ensures { λ r. ⌜ length r ≡ 2050 ⌝ }
-{
-    [0; 2050]
-}
-
-// A pool with room for the bodies of two full records and three more of the longest.
-pub fn pool() -> [u8; 45808]
-    ensures { λ r. ⌜ length r ≡ 45808 ⌝ }
-{
-    [0; 45808]
-}
-
-// The same for small graph names: 128 names and four more, 128 pairs of a kind and two more, 8,192 bytes and three names more.
-pub fn small_name_table() -> [u32; 132]
-    ensures { λ r. ⌜ length r ≡ 132 ⌝ }
-{
-    [0; 132]
-}
-
-pub fn small_pair_table() -> [u32; 130]
-    ensures { λ r. ⌜ length r ≡ 130 ⌝ }
-{
-    [0; 130]
-}
-
-pub fn small_pool() -> [u8; 8960]
-    ensures { λ r. ⌜ length r ≡ 8960 ⌝ }
-{
-    [0; 8960]
 }
 
 // The body that a number of the table of names stands for.
@@ -147,7 +107,7 @@ pub fn put_name(
     sizes: Sizes,
     near: usize,
     name: &[u8],
-) -> Placed
+) -> PlacedName
     requires { ⌜ Kept (tables (now refs) (now subs) (now trans) (now pool) sizes) ⌝ }
     requires { ⌜ NameRoom (tables (now refs) (now subs) (now trans) (now pool) sizes) (now name) ⌝ }
     ensures { λ r. ⌜ NamePut (tables (now (refs .entry)) (now (subs .entry)) (now (trans .entry)) (now (pool .entry)) sizes) (now (name .entry)) (tables (now (refs .exit)) (now (subs .exit)) (now (trans .exit)) (now (pool .exit)) (r .sizes)) (r .place) ⌝ }
@@ -157,7 +117,7 @@ pub fn put_name(
     let sought = seek_near(refs, pool, n, near, name);
     let p = sought.place;
     if sought.there {
-        return Placed {
+        return PlacedName {
             place: p,
             sizes: sizes,
         };
@@ -166,7 +126,7 @@ pub fn put_name(
     insert_at(refs, n, p, (at * 65536 + name.len()) as u32);
     renumber(subs, sizes.subgraph, p as u32);
     renumber(trans, sizes.translation, p as u32);
-    Placed {
+    PlacedName {
         place: p,
         sizes: Sizes {
             names: n + 1,
@@ -189,7 +149,7 @@ fn moved_place(x: usize, p: usize, before: usize, now: usize) -> usize
 }
 
 // The first place of the last of n pairs, or 0 where there is none.
-fn first_of_last(pairs: &[u32], n: usize) -> usize
+fn last_from(pairs: &[u32], n: usize) -> usize
     requires { ⌜ n ≤ length (now pairs) ⌝ }
 {
     if n == 0 {
@@ -200,12 +160,12 @@ fn first_of_last(pairs: &[u32], n: usize) -> usize
 }
 
 // The first place of the last pair of a kind: in relations that are in order the next one often begins there too.
-fn last_first(kind: Kind, subs: &[u32], trans: &[u32], sizes: Sizes) -> usize
+fn last_from_of_kind(kind: Kind, subs: &[u32], trans: &[u32], sizes: Sizes) -> usize
     requires { ⌜ (sizes .subgraph ≤ length (now subs)) × (sizes .translation ≤ length (now trans)) ⌝ }
 {
     match kind {
-        Kind::Subgraph => first_of_last(subs, sizes.subgraph),
-        Kind::Translation => first_of_last(trans, sizes.translation),
+        Kind::Subgraph => last_from(subs, sizes.subgraph),
+        Kind::Translation => last_from(trans, sizes.translation),
     }
 }
 
@@ -224,7 +184,7 @@ pub fn put_pair(
     requires { ⌜ PairRoom (tables (now refs) (now subs) (now trans) (now pool) sizes) (now from) (now to) ⌝ }
     ensures { λ r. ⌜ PairPut kind (tables (now (refs .entry)) (now (subs .entry)) (now (trans .entry)) (now (pool .entry)) sizes) (now (from .entry)) (now (to .entry)) (tables (now (refs .exit)) (now (subs .exit)) (now (trans .exit)) (now (pool .exit)) r) ⌝ }
 {
-    let near = last_first(kind, subs, trans, sizes);
+    let near = last_from_of_kind(kind, subs, trans, sizes);
     let a = put_name(refs, subs, trans, pool, sizes, near, from);
     let b = put_name(refs, subs, trans, pool, a.sizes, a.sizes.names, to);
     let x = moved_place(a.place, b.place, a.sizes.names, b.sizes.names);

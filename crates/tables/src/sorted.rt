@@ -23,6 +23,7 @@ pub(crate) fn insert_at(a: &mut [u32], n: usize, p: usize, v: u32)
     a[p] = v;
 }
 
+// What a place q goes up by after a name came in at place p.
 fn step(p: u32, q: u32) -> u32
     ensures { λ r. ⌜ (r ≡ above p q) × (r ≤ 1) ⌝ }
 {

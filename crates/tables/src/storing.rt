@@ -1,4 +1,4 @@
-// Writing the tables into a record buffer.
+// The tables written into a record buffer: the counts, the entries of the names, the pairs of each kind and the bodies, in their order.
 use crate::putting::Sizes;
 use crate::putting::body;
 use text::write16;
@@ -8,20 +8,20 @@ ghost use Prim.Native.Nat.{_+_, _-_, _*_, _≤_, _<_};
 ghost use lib.ListN.{length, take, replicate};
 ghost use Rattle.model.specs.Bytes.{put};
 ghost use Rattle.model.specs.Record.{bodies};
-ghost use Rattle.model.specs.Layout.{encode};
+ghost use Rattle.model.specs.Layout.{recordLength, countsLength, entryLength, pairLength, encode};
 ghost use Rattle.record.specs.Coded.{lePairs, meaning};
-ghost use Rattle.tables.specs.Tables.{tables, pairsIn, namesIn, entryPairs, readOut, Storable};
+ghost use Rattle.tables.specs.Tables.{tables, pairsIn, namesIn, entry, entriesFrom, readOut, Storable};
 
 // Writes the four counts, and gives the place behind them.
-fn put_head(
+fn store_counts(
     buffer: &mut [u8],
     names: usize,
     own: usize,
     subgraph: usize,
     translation: usize,
 ) -> usize
-    requires { ⌜ 8 ≤ length (now buffer) ⌝ }
-    ensures { λ r. ⌜ (r ≡ 8) × (now (buffer .exit) ≡ put (now (buffer .entry)) 0 (lePairs ((names, own) ∷ (subgraph, translation) ∷ []))) ⌝ }
+    requires { ⌜ countsLength ≤ length (now buffer) ⌝ }
+    ensures { λ r. ⌜ (r ≡ countsLength) × (now (buffer .exit) ≡ put (now (buffer .entry)) 0 (lePairs ((names, own) ∷ (subgraph, translation) ∷ []))) ⌝ }
 {
     let a = write16(buffer, 0, names);
     let b = write16(buffer, a, own);
@@ -29,42 +29,58 @@ fn put_head(
     write16(buffer, c, translation)
 }
 
-// Writes start and length of the first n names at `at`.
-fn put_entries(buffer: &mut [u8], at: usize, refs: &[u32], n: usize) -> usize
-    requires { ⌜ (n ≤ length (now refs)) × (n < 65536) × (at + 4 * n ≤ length (now buffer)) ⌝ }
-    ensures { λ r. ⌜ (r ≡ at + 4 * n) × (now (buffer .exit) ≡ put (now (buffer .entry)) at (lePairs (entryPairs 0 (take n (now (refs .entry)))))) ⌝ }
+// Writes the entry of a name at `at`, and gives the place behind it.
+fn store_entry(buffer: &mut [u8], at: usize, start: usize, size: usize) -> usize
+    requires { ⌜ at + entryLength ≤ length (now buffer) ⌝ }
+    ensures { λ r. ⌜ (r ≡ at + entryLength) × (now (buffer .exit) ≡ put (now (buffer .entry)) at (entry start size)) ⌝ }
+{
+    let p = write16(buffer, at, start);
+    write16(buffer, p, size)
+}
+
+// Writes the entries of the first n names at `at`.
+fn store_entries(buffer: &mut [u8], at: usize, refs: &[u32], n: usize) -> usize
+    requires { ⌜ (n ≤ length (now refs)) × (n < 65536) × (at + entryLength * n ≤ length (now buffer)) ⌝ }
+    ensures { λ r. ⌜ (r ≡ at + entryLength * n) × (now (buffer .exit) ≡ put (now (buffer .entry)) at (entriesFrom 0 (take n (now (refs .entry))))) ⌝ }
 {
     let mut start = 0;
     let mut p = at;
     let mut i = 0;
     while i < n {
         let size = (refs[i] % 65536) as usize;
-        let q = write16(buffer, p, start);
-        p = write16(buffer, q, size);
+        p = store_entry(buffer, p, start, size);
         start += size;
         i += 1;
     }
     p
 }
 
-// Writes the places of the first n pairs at `at`.
-fn put_pairs(buffer: &mut [u8], at: usize, a: &[u32], n: usize) -> usize
-    requires { ⌜ (n ≤ length (now a)) × (at + 4 * n ≤ length (now buffer)) ⌝ }
-    ensures { λ r. ⌜ (r ≡ at + 4 * n) × (now (buffer .exit) ≡ put (now (buffer .entry)) at (lePairs (pairsIn n (now (a .entry))))) ⌝ }
+// Writes the two places of a pair at `at`, and gives the place behind them.
+fn store_pair(buffer: &mut [u8], at: usize, from: usize, to: usize) -> usize
+    requires { ⌜ at + pairLength ≤ length (now buffer) ⌝ }
+    ensures { λ r. ⌜ (r ≡ at + pairLength) × (now (buffer .exit) ≡ put (now (buffer .entry)) at (lePairs ((from, to) ∷ []))) ⌝ }
+{
+    let p = write16(buffer, at, from);
+    write16(buffer, p, to)
+}
+
+// Writes the first n pairs at `at`.
+fn store_pairs(buffer: &mut [u8], at: usize, pairs: &[u32], n: usize) -> usize
+    requires { ⌜ (n ≤ length (now pairs)) × (at + pairLength * n ≤ length (now buffer)) ⌝ }
+    ensures { λ r. ⌜ (r ≡ at + pairLength * n) × (now (buffer .exit) ≡ put (now (buffer .entry)) at (lePairs (pairsIn n (now (pairs .entry))))) ⌝ }
 {
     let mut p = at;
     let mut i = 0;
     while i < n {
-        let x = a[i] as usize;
-        let q = write16(buffer, p, x / 65536);
-        p = write16(buffer, q, x % 65536);
+        let x = pairs[i] as usize;
+        p = store_pair(buffer, p, x / 65536, x % 65536);
         i += 1;
     }
     p
 }
 
 // Writes the bodies of the first n names at `at`.
-fn put_bodies(buffer: &mut [u8], at: usize, refs: &[u32], pool: &[u8], n: usize) -> usize
+fn store_bodies(buffer: &mut [u8], at: usize, refs: &[u32], pool: &[u8], n: usize) -> usize
     requires { ⌜ (n ≤ length (now refs)) × (at + length (bodies (namesIn (now pool) n (now refs))) ≤ length (now buffer)) ⌝ }
     ensures { λ r. ⌜ (r ≡ at + length (bodies (namesIn (now (pool .entry)) n (now (refs .entry))))) × (now (buffer .exit) ≡ put (now (buffer .entry)) at (bodies (namesIn (now (pool .entry)) n (now (refs .entry))))) ⌝ }
 {
@@ -99,14 +115,14 @@ pub fn store(
     own: usize,
     buffer: &mut [u8],
 )
-    requires { ⌜ Storable (tables (now refs) (now subs) (now trans) (now pool) sizes) own × (length (now buffer) ≡ 32768) ⌝ }
+    requires { ⌜ Storable (tables (now refs) (now subs) (now trans) (now pool) sizes) own × (length (now buffer) ≡ recordLength) ⌝ }
     ensures { λ _. ⌜ now (buffer .exit) ≡ encode (meaning (readOut (tables (now (refs .entry)) (now (subs .entry)) (now (trans .entry)) (now (pool .entry)) sizes) own)) ⌝ }
 {
     let n = sizes.names;
-    let entries = put_head(buffer, n, own, sizes.subgraph, sizes.translation);
-    let subgraph = put_entries(buffer, entries, refs, n);
-    let translation = put_pairs(buffer, subgraph, subs, sizes.subgraph);
-    let bodies = put_pairs(buffer, translation, trans, sizes.translation);
-    let end = put_bodies(buffer, bodies, refs, pool, n);
+    let entries = store_counts(buffer, n, own, sizes.subgraph, sizes.translation);
+    let subgraph = store_entries(buffer, entries, refs, n);
+    let translation = store_pairs(buffer, subgraph, subs, sizes.subgraph);
+    let bodies = store_pairs(buffer, translation, trans, sizes.translation);
+    let end = store_bodies(buffer, bodies, refs, pool, n);
     clear(buffer, end);
 }

@@ -1,12 +1,12 @@
 // Header lines by themselves: the GFA 1 specification's own example, and the lines of docs/FORMAT.md, example 16, read strictly and leniently.
 use crate::output::Counts;
 use crate::output::judged;
-use crate::output::print;
-use crate::output::print_number;
 use crate::output::print_shown;
-use crate::sizes::record_buffer;
 use model::Strictness;
 use parse::Answer;
+use record::empty_record;
+use test_output::print;
+use test_output::print_number;
 
 // A line that is stated to be fine, read strictly.
 fn strictly(c: Counts, label: &[u8], line: &[u8]) -> Counts {
@@ -29,22 +29,17 @@ fn strictly(c: Counts, label: &[u8], line: &[u8]) -> Counts {
 fn leniently(c: Counts, label: &[u8], line: &[u8]) -> Counts {
     print(label);
     print_shown(line);
-    let mut space = record_buffer();
+    let mut space = empty_record();
     let b: &mut [u8] = &mut space;
     match parse::from_header_lines(line, b) {
         Answer::Done => {
             print(b" is read");
-            let none = record_buffer();
+            let none = empty_record();
             judged(c, text::same(b, &none))
         }
-        Answer::Refused {
-            number,
-            line: _,
-            start: _,
-            size: _,
-        } => {
+        Answer::Refused(refusal) => {
             print(b" is refused with ");
-            print_number(number);
+            print_number(refusal.number);
             judged(c, false)
         }
     }

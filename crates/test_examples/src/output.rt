@@ -1,20 +1,11 @@
 // Printing what came out beside what was stated, and the two counts of that.
-use libc::STDOUT_FILENO;
+use test_output::print;
+use test_output::print_number;
 
 // How many answers are as stated, and how many differ.
 pub struct Counts {
     pub stated: usize,
     pub differ: usize,
-}
-
-// Writes to standard output.
-pub fn print(s: &[u8]) {
-    io::write_all(STDOUT_FILENO, s);
-}
-
-// Writes a number in decimal.
-pub fn print_number(n: usize) {
-    io::print_decimal(STDOUT_FILENO, n as u64);
 }
 
 // Writes a text on one line: a tab as \t and the end of a line as \n.

@@ -3,33 +3,11 @@
 use crate::output::Counts;
 use crate::output::number;
 use parse::Answer;
+use record::empty_record;
+use test_output::put;
+use test_output::put_text;
 ghost use mathlib.Core.Path.{_≡_};
 ghost use lib.ListN.{length};
-
-// A buffer for a record.
-pub fn record_buffer() -> [u8; 32768]
-    ensures { λ r. ⌜ 32768 ≡ length r ⌝ }
-{
-    [0; 32768]
-}
-
-// Writes a byte, if there is room, and gives the place behind it.
-pub fn put(out: &mut [u8], at: usize, x: u8) -> usize {
-    if at < out.len() {
-        out[at] = x;
-        return at + 1;
-    }
-    at
-}
-
-// Writes a text, as far as there is room.
-pub fn put_text(out: &mut [u8], at: usize, s: &[u8]) -> usize {
-    let mut p = at;
-    for i in 0..s.len() {
-        p = put(out, p, s[i]);
-    }
-    p
-}
 
 // Writes the decimal digit n % 10.
 fn put_digit(out: &mut [u8], at: usize, n: usize) -> usize {
@@ -64,12 +42,7 @@ fn put_lines(out: &mut [u8], names: usize, size: usize) -> usize {
 fn number_of(answer: Answer) -> usize {
     match answer {
         Answer::Done => 0,
-        Answer::Refused {
-            number,
-            line: _,
-            start: _,
-            size: _,
-        } => number,
+        Answer::Refused(refusal) => refusal.number,
     }
 }
 
@@ -78,7 +51,7 @@ fn read_names(names: usize, size: usize) -> usize {
     let mut lines = io::large_buffer();
     let out: &mut [u8] = &mut lines;
     let n = put_lines(out, names, size);
-    let mut space = record_buffer();
+    let mut space = empty_record();
     let b: &mut [u8] = &mut space;
     number_of(parse::from_header_lines(text::part(out, 0, n), b))
 }
@@ -96,7 +69,7 @@ fn add_name(b: &mut [u8], i: usize, size: usize) -> u32 {
 
 // The number for so many names of one size, added one by one: the last addition's.
 fn add_names(names: usize, size: usize) -> u32 {
-    let mut space = record_buffer();
+    let mut space = empty_record();
     let b: &mut [u8] = &mut space;
     let mut last = 0;
     for i in 0..names {

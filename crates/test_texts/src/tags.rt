@@ -1,15 +1,15 @@
 // The entry with three outputs, which writes the tags of a record: each output is to come out as its `want` says.
-use listed::OUT;
-use listed::OUT_THREE;
-use listed::OUT_TWO;
-use listed::RECORD;
-use listed::UNWRITTEN;
-use listed::WANT;
-use listed::WANT_THREE;
-use listed::WANT_TWO;
-use listed::are_seven;
-use listed::held;
-use listed::load;
+use test_list::OUT;
+use test_list::OUT_THREE;
+use test_list::OUT_TWO;
+use test_list::RECORD;
+use test_list::UNWRITTEN;
+use test_list::WANT;
+use test_list::WANT_THREE;
+use test_list::WANT_TWO;
+use test_list::are_seven;
+use test_list::held;
+use test_list::load;
 
 // Whether the numbers of `graph_name_set_tags` are so.
 fn answered(

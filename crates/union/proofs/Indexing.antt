@@ -1,4 +1,4 @@
--- Where the keys of each keys number stand, one number more at each turn: those before place e are smaller, the others are not.
+-- Where the keys of each first number stand, one number more at each turn: the keys before place e have smaller numbers, the others do not.
 use Prim.Native.Nat.{ℕ, _+_, _/_, _<_, _≤_}
 use native.Mathlib.Decide.{decLt}
 use native.Mathlib.Omega.{arith}

@@ -1,5 +1,6 @@
 -- The names of two records numbered, one number more at each turn.
-use mathlib.Core.Path.{_≡_, refl, sym}
+use mathlib.Core.Path.{_≡_, refl}
+use mathlib.Core.Bool.{Bool, true, false, cond}
 use mathlib.Core.Logic.{_⊎_, inl, inr, ⊎-elim}
 use mathlib.Core.List.{List}
 use Prim.Native.Nat.{ℕ, _+_, _-_, _≤_, _<_}
@@ -7,20 +8,37 @@ use native.Mathlib.Omega.{arith}
 use lib.ListN.{length, getD, set}
 use lib.Seq.{getD-set-same, getD-set-other}
 use borrow.Author.Tests.{eq-eqb, ne-eqb}
-use Rattle.model.specs.declared.Order.{Order}
 use Rattle.model.specs.declared.Order.the-variants.{Less, Equal, Greater}
 use Rattle.model.specs.Bytes.{Bytes, compareBytes}
 use Rattle.model.specs.Layout.{nameAt}
 use Rattle.text.proofs.Order.{bytes-order}
 use Rattle.text.proofs.Ascending.{greater-less}
 use Rattle.union.specs.Names.{Names, naming, nameOf}
-use Rattle.union.specs.Numbers.{NamesRise, Numbered, Next}
+use Rattle.union.specs.Numbers.{NamesRise, Numbered, Next, Passed}
 use Rattle.paths.proofs.Tree.{below}
 
-pub next-compared : (b c : Bytes) (m n i j : ℕ) → i < m → j < n → (o : Order) → o ≡ compareBytes (nameAt b i) (nameAt c j) → Next b c m n i j o
-next-compared b c m n i j l k Less e = (l, λ x. sym e)
-next-compared b c m n i j l k Equal e = (l, k, bytes-order .same (nameAt b i) (nameAt c j) (sym e))
-next-compared b c m n i j l k Greater e = (k, λ x. greater-less bytes-order (nameAt b i) (nameAt c j) (sym e))
+-- the next name by the comparison of both
+module _ (b c : Bytes) (m n i j : ℕ) (l : i < m) (k : j < n) where
+  pub next-less : compareBytes (nameAt b i) (nameAt c j) ≡ Less → Next b c m n i j true false
+  next-less e = (l, λ x. e)
+
+  pub next-equal : compareBytes (nameAt b i) (nameAt c j) ≡ Equal → Next b c m n i j true true
+  next-equal e = (l, k, bytes-order .same (nameAt b i) (nameAt c j) e)
+
+  pub next-greater : compareBytes (nameAt b i) (nameAt c j) ≡ Greater → Next b c m n i j false true
+  next-greater e = (k, λ x. greater-less bytes-order (nameAt b i) (nameAt c j) e)
+
+-- a record that holds the next name is not at its end
+module _ (b c : Bytes) (m n i j : ℕ) where
+  pub first-more : (f s : Bool) → Next b c m n i j f s → f ≡ true → i < m
+  first-more true true x e = x .0
+  first-more true false x e = x .0
+  first-more false s x e = let z : _≡_ {A = ℕ} 0 1 = cc in omega arith
+
+  pub second-more : (f s : Bool) → Next b c m n i j f s → s ≡ true → j < n
+  second-more true true x e = x .1
+  second-more false true x e = x .0
+  second-more f false x e = let z : _≡_ {A = ℕ} 0 1 = cc in omega arith
 
 -- ------------------------------------------------------------------ the name of a number
 
@@ -82,16 +100,15 @@ pub record Side (os os′ : List ℕ) (v i i′ p : ℕ) : Type 0 where
   pub most : p ≤ i′
   pub passed : (q : ℕ) → q < i′ → ((q < i) × (getD os′ q 0 ≡ getD os q 0)) ⊎ ((getD os′ q 0 ≡ v) × (p ≡ q + 1))
 
-pub side-none : (os : List ℕ) (v i : ℕ) → Side os os v i i 0
-side-none os v i = record { up = omega arith; most = omega arith; passed = λ q l. inl (l, refl) }
-
-pub side-one : (os : List ℕ) (v i : ℕ) → i < length os → Side os (set os i v) v i (i + 1) (i + 1)
-side-one os v i l = record {
+side : (os : List ℕ) (v i : ℕ) (held : Bool) → (held ≡ true → i < length os)
+    → Side os (cond held (set os i v) os) v i (cond held (i + 1) i) (cond held (i + 1) 0)
+side os v i false l = record { up = omega arith; most = omega arith; passed = λ q k. inl (k, refl) }
+side os v i true l = record {
   up = omega arith;
   most = omega arith;
   passed = λ q k. ⊎-elim
       (λ (o : q < i). inl (o, getD-set-other os i q v 0 (omega arith)))
-      (λ (e : q ≡ i). inr (rw e (getD-set-same os i v 0 l), omega arith))
+      (λ (e : q ≡ i). inr (rw e (getD-set-same os i v 0 (l refl)), omega arith))
       (below q i k);
 }
 
@@ -172,34 +189,41 @@ module _ (b c : Bytes) (m n : ℕ) (fs ss os ts : List ℕ) (i j v : ℕ) (t : N
     before-second = λ u l k. after (nameAt c j′) (below-second k) u l;
   }
 
--- ------------------------------------------------------------------ the three ways of a turn
+-- ------------------------------------------------------------------ one turn
 
 module _ (b c : Bytes) (m n : ℕ) (fs ss os ts : List ℕ) (i j v : ℕ) (t : Numbering b c m n fs ss os ts i j v)
     (first-rise : NamesRise b m) (second-rise : NamesRise c n) (fs-room : v < length fs) (ss-room : v < length ss) where
-  -- a name of the first record alone
-  pub numbering-less : Next b c m n i j Less → i < length os → Numbering b c m n (set fs v (i + 1)) (set ss v 0) (set os i v) ts (i + 1) j (v + 1)
-  numbering-less next os-room =
-      numbering-push b c m n fs ss os ts i j v t fs-room ss-room (set os i v) ts (i + 1) j (i + 1) 0 (side-one os v i os-room) (side-none ts v j)
+  -- a name of the first record alone, of both, or of the second alone
+  held-by : (f s : Bool) → Next b c m n i j f s → (f ≡ true → i < length os) → (s ≡ true → j < length ts)
+      → Numbering b c m n (set fs v (cond f (i + 1) 0)) (set ss v (cond s (j + 1) 0)) (cond f (set os i v) os) (cond s (set ts j v) ts) (cond f (i + 1) i) (cond s (j + 1) j) (v + 1)
+  held-by true false next os-room ts-room =
+      numbering-push b c m n fs ss os ts i j v t fs-room ss-room (set os i v) ts (i + 1) j (i + 1) 0 (side os v i true os-room) (side ts v j false ts-room)
       (omega arith) (omega (arith, next .0)) (t .second-left) (λ z. absurd (omega arith)) (λ p z. absurd (omega arith))
       (nameAt b i) (name-first (naming b c (set fs v (i + 1)) (set ss v 0)) v i (getD-set-same fs v (i + 1) 0 fs-room))
       (λ u l. t .before-first u l (next .0)) (λ l. first-rise i (i + 1) (omega arith) l) (next .1)
-
-  -- a name of both
-  pub numbering-equal : Next b c m n i j Equal → i < length os → j < length ts
-      → Numbering b c m n (set fs v (i + 1)) (set ss v (j + 1)) (set os i v) (set ts j v) (i + 1) (j + 1) (v + 1)
-  numbering-equal next os-room ts-room =
+  held-by true true next os-room ts-room =
       let p : i + 1 - 1 ≡ i = omega arith in
       let q : j + 1 - 1 ≡ j = omega arith in
-      numbering-push b c m n fs ss os ts i j v t fs-room ss-room (set os i v) (set ts j v) (i + 1) (j + 1) (i + 1) (j + 1) (side-one os v i os-room) (side-one ts v j ts-room)
+      numbering-push b c m n fs ss os ts i j v t fs-room ss-room (set os i v) (set ts j v) (i + 1) (j + 1) (i + 1) (j + 1) (side os v i true os-room) (side ts v j true ts-room)
       (omega arith) (omega (arith, next .0)) (omega (arith, next .1)) (λ z. absurd (omega arith)) (λ x y. rw (p, q) (next .2))
       (nameAt b i) (name-first (naming b c (set fs v (i + 1)) (set ss v (j + 1))) v i (getD-set-same fs v (i + 1) 0 fs-room))
       (λ u l. t .before-first u l (next .0)) (λ l. first-rise i (i + 1) (omega arith) l) (λ l. rw (next .2) (second-rise j (j + 1) (omega arith) l))
-
-  -- a name of the second record alone
-  pub numbering-greater : Next b c m n i j Greater → j < length ts → Numbering b c m n (set fs v 0) (set ss v (j + 1)) os (set ts j v) i (j + 1) (v + 1)
-  numbering-greater next ts-room =
-      numbering-push b c m n fs ss os ts i j v t fs-room ss-room os (set ts j v) i (j + 1) 0 (j + 1) (side-none os v i) (side-one ts v j ts-room)
+  held-by false true next os-room ts-room =
+      numbering-push b c m n fs ss os ts i j v t fs-room ss-room os (set ts j v) i (j + 1) 0 (j + 1) (side os v i false os-room) (side ts v j true ts-room)
       (omega arith) (t .first-left) (omega (arith, next .0)) (λ z. omega arith) (λ p z. absurd (omega arith))
       (nameAt c j)
       (name-second (naming b c (set fs v 0) (set ss v (j + 1))) v j (getD-set-same fs v 0 0 fs-room) (getD-set-same ss v (j + 1) 0 ss-room))
       (λ u l. t .before-second u l (next .0)) (next .1) (λ l. second-rise j (j + 1) (omega arith) l)
+  held-by false false next os-room ts-room = absurd next
+
+  pub numbering-turn : (f s : Bool) → Next b c m n i j f s → (f ≡ true → i < length os) → (s ≡ true → j < length ts)
+      → (fs′ os′ : List ℕ) (i′ : ℕ) → Passed fs os i v f fs′ os′ i′ → (ss′ ts′ : List ℕ) (j′ : ℕ) → Passed ss ts j v s ss′ ts′ j′
+      → Numbering b c m n fs′ ss′ os′ ts′ i′ j′ (v + 1) × (i + j < i′ + j′)
+  numbering-turn f s next os-room ts-room fs′ os′ i′ one ss′ ts′ j′ two =
+      rw (one .passed, one .by-number, one .by-place, two .passed, two .by-number, two .by-place) (held-by f s next os-room ts-room, onward f s next)
+    where
+      onward : (f s : Bool) → Next b c m n i j f s → i + j < cond f (i + 1) i + cond s (j + 1) j
+      onward true true x = omega arith
+      onward true false x = omega arith
+      onward false true x = omega arith
+      onward false false x = absurd x

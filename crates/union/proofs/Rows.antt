@@ -10,8 +10,7 @@ use lib.Seq.{length-take-le, take-at, drop-at, take-length, drop-length}
 use Rattle.model.specs.declared.Kind.{Kind}
 use Rattle.model.specs.declared.Kind.the-variants.{Translation}
 use Rattle.model.specs.Bytes.{Bytes}
-use Rattle.model.specs.Numbers.{number}
-use Rattle.record.specs.Test.{pairCount, tableAt}
+use Rattle.model.specs.Layout.{pairLength, pairCount, tableAt, fromPlace, toPlace}
 use Rattle.paths.specs.Tables.{Edges, edges, Leaves, Made}
 use Rattle.union.specs.Keys.{keyAt, Rises, Among, Merged, Indexed, Leads, Built, Sorted, Roomy, Buildable, KindBuilt, TranslationsBuilt}
 
@@ -31,8 +30,8 @@ module _ (b : Bytes) (at : ℕ) (numbers keys : List ℕ) (size : ℕ) (sorted :
   says : (x : ℕ) → Among keys (length keys) x → Says b at numbers (length keys) size x
   says x w =
       let e = sorted .paired .places (w .at) (w .lt) in
-      let f = sorted .small (number b (at + 4 * w .at)) (e .0) in
-      let t = sorted .small (number b (at + 4 * w .at + 2)) (e .1) in
+      let f = sorted .small (fromPlace b (at + pairLength * w .at)) (e .0) in
+      let t = sorted .small (toPlace b (at + pairLength * w .at)) (e .1) in
       let k = r (w .at) (w .lt) in
       record {
         leads = (w .at, w .lt, omega (arith, w .is), omega (arith, w .is));
@@ -42,7 +41,7 @@ module _ (b : Bytes) (at : ℕ) (numbers keys : List ℕ) (size : ℕ) (sorted :
   found : (v w : ℕ) → Leads b at numbers (length keys) v w → Among keys (length keys) (v * 65536 + w) × (w < size)
   found v w l =
       let e = sorted .paired .places (l .0) (l .1) in
-      let t = sorted .small (number b (at + 4 * l .0 + 2)) (e .1) in
+      let t = sorted .small (toPlace b (at + pairLength * l .0)) (e .1) in
       (record { at = l .0; lt = l .1; is = r (l .0) (l .1) ∙ rw (l .2, l .3) }, omega (arith, l .3))
 
 module _ (b : Bytes) (s : ℕ) (ones : List ℕ) (c : Bytes) (t : ℕ) (twos : List ℕ) (a d keys starts ends targets : List ℕ) (size : ℕ)

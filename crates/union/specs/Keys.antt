@@ -1,5 +1,5 @@
 -- Pairs of numbers as keys, so that the order of numbers is the order by first then second; sorted rows of keys, as one, and where
--- each first number's keys stand. Assumes nothing.
+-- each first number's keys stand.
 use mathlib.Core.Path.{_≡_}
 use mathlib.Core.Logic.{_⊎_}
 use mathlib.Core.Bool.{Bool, true, false}
@@ -9,20 +9,18 @@ use lib.ListN.{length, getD, take}
 use Rattle.model.specs.declared.Kind.{Kind}
 use Rattle.model.specs.declared.Kind.the-variants.{Translation}
 use Rattle.model.specs.Bytes.{Bytes}
-use Rattle.model.specs.Layout.{recordLength}
-use Rattle.record.specs.Test.{pairCount, tableAt}
-use Rattle.model.specs.Numbers.{number}
+use Rattle.model.specs.Layout.{fromPlace, pairLength, toPlace, recordLength, pairCount, tableAt}
 use Rattle.paths.specs.Tables.{Edges, edges, Leaves, Made}
 
 -- the p'th pair of places from byte `at` on, by the numbers of the places
 abbrev pub keyAt : Bytes → ℕ → List ℕ → ℕ → ℕ
-keyAt b at numbers p = getD numbers (number b (at + 4 * p)) 0 * 65536 + getD numbers (number b (at + 4 * p + 2)) 0
+keyAt b at numbers p = getD numbers (fromPlace b (at + pairLength * p)) 0 * 65536 + getD numbers (toPlace b (at + pairLength * p)) 0
 
 -- n pairs can be read, and their places have numbers
 pub record Paired (b : Bytes) (at : ℕ) (numbers : List ℕ) (n : ℕ) : Type 0 where
-  pub within : at + 4 * n ≤ length b
+  pub within : at + pairLength * n ≤ length b
   pub short : length b ≤ 65536
-  pub places : (p : ℕ) → p < n → (number b (at + 4 * p) < length numbers) × (number b (at + 4 * p + 2) < length numbers)
+  pub places : (p : ℕ) → p < n → (fromPlace b (at + pairLength * p) < length numbers) × (toPlace b (at + pairLength * p) < length numbers)
 
 abbrev pub Rises : List ℕ → Type 0
 Rises l = (i j : ℕ) → i ≤ j → j < length l → getD l i 0 ≤ getD l j 0
@@ -55,7 +53,7 @@ pub record Indexed (keys starts ends : List ℕ) : Type 0 where
 
 -- some pair of b leads from number v to number w
 abbrev pub Leads : Bytes → ℕ → List ℕ → ℕ → ℕ → ℕ → Type 0
-Leads b at numbers n v w = (p : ℕ) × (p < n) × (getD numbers (number b (at + 4 * p)) 0 ≡ v) × (getD numbers (number b (at + 4 * p + 2)) 0 ≡ w)
+Leads b at numbers n v w = (p : ℕ) × (p < n) × (getD numbers (fromPlace b (at + pairLength * p)) 0 ≡ v) × (getD numbers (toPlace b (at + pairLength * p)) 0 ≡ w)
 
 -- the table has the pairs of both and no others
 pub record Built (b : Bytes) (s : ℕ) (ones : List ℕ) (m : ℕ) (c : Bytes) (t : ℕ) (twos : List ℕ) (n : ℕ) (es : Edges) : Type 0 where

@@ -1,4 +1,4 @@
--- The names of the nodes, as parts of two record buffers. Assumes nothing.
+-- The names of the nodes, as parts of two record buffers.
 use mathlib.Core.Path.{_≡_}
 use mathlib.Core.Bool.{cond}
 use mathlib.Core.List.{List}

@@ -1,11 +1,11 @@
 -- Numbers for the names of two records together, in the order of the names: by place in each record the number, and by number
--- the place in each record plus 1, or 0 where the record does not hold the name. Assumes nothing.
+-- the place in each record plus 1, or 0 where the record does not hold the name.
 use mathlib.Core.Path.{_≡_}
+use mathlib.Core.Bool.{Bool, true, false, cond}
 use mathlib.Core.List.{List}
 use Prim.Native.Nat.{ℕ, _+_, _-_, _≤_, _<_}
-use lib.ListN.{length, getD}
-use Rattle.model.specs.declared.Order.{Order}
-use Rattle.model.specs.declared.Order.the-variants.{Less, Equal, Greater}
+use lib.ListN.{length, getD, set}
+use Rattle.model.specs.declared.Order.the-variants.{Less}
 use Rattle.model.specs.Bytes.{Bytes, compareBytes}
 use Rattle.model.specs.Layout.{recordLength, nameAt}
 use Rattle.union.specs.Names.{naming, nameOf}
@@ -39,8 +39,15 @@ pub record Numberable (b c : Bytes) (m n : ℕ) (firsts seconds ones twos : List
   pub ones-room : m ≤ length ones
   pub twos-room : n ≤ length twos
 
--- which record the next number's name is from: the first alone, both, or the second alone
-abbrev pub Next : Bytes → Bytes → ℕ → ℕ → ℕ → ℕ → Order → Type 0
-Next b c m n i j Less = (i < m) × (j < n → compareBytes (nameAt b i) (nameAt c j) ≡ Less)
-Next b c m n i j Equal = (i < m) × (j < n) × (nameAt b i ≡ nameAt c j)
-Next b c m n i j Greater = (j < n) × (i < m → compareBytes (nameAt c j) (nameAt b i) ≡ Less)
+-- which records hold the next number's name: the first alone, both, or the second alone
+abbrev pub Next : Bytes → Bytes → ℕ → ℕ → ℕ → ℕ → Bool → Bool → Type 0
+Next b c m n i j true false = (i < m) × (j < n → compareBytes (nameAt b i) (nameAt c j) ≡ Less)
+Next b c m n i j true true = (i < m) × (j < n) × (nameAt b i ≡ nameAt c j)
+Next b c m n i j false true = (j < n) × (i < m → compareBytes (nameAt c j) (nameAt b i) ≡ Less)
+Next b c m n i j false false = ⊥
+
+-- a name that has number v in the tables of a record, of whose names `at` are passed before it and r with it
+pub record Passed (places numbers : List ℕ) (at v : ℕ) (held : Bool) (places′ numbers′ : List ℕ) (r : ℕ) : Type 0 where
+  pub passed : r ≡ cond held (at + 1) at
+  pub by-number : places′ ≡ set places v (cond held (at + 1) 0)
+  pub by-place : numbers′ ≡ cond held (set numbers at v) numbers

@@ -1,6 +1,7 @@
 // The pairs of two records as tables of steps: by keys of two numbers, merged in order, and indexed by the first number.
 use model::Kind;
 use paths::clear;
+use record::PAIR_LENGTH;
 use record::pair_count;
 use record::pair_from;
 use record::pair_to;
@@ -19,8 +20,8 @@ pub(crate) fn read_keys(b: &[u8], at: usize, numbers: &[u16], keys: &mut [u32])
 {
     let mut p = 0;
     while p < keys.len() {
-        let from = pair_from(b, at + 4 * p);
-        let to = pair_to(b, at + 4 * p);
+        let from = pair_from(b, at + PAIR_LENGTH * p);
+        let to = pair_to(b, at + PAIR_LENGTH * p);
         keys[p] = numbers[from] as u32 * 65536 + numbers[to] as u32;
         p += 1;
     }

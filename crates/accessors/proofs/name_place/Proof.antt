@@ -1,8 +1,9 @@
 -- A refusal is the fault found; past the end there is none; else the entry tells where the name stands.
 use mathlib.Core.Path.{_≡_, sym, _∙_}
-use Rattle.model.specs.Questions.{faultOf, nameAtIn}
+use Rattle.model.specs.Questions.{nameAtIn}
+use Rattle.model.specs.Opening.{faultOf}
 use Rattle.record.proofs.Held.{Held}
-use Rattle.record.proofs.Asked.{refused-asked, fault-held}
+use Rattle.record.proofs.Opening.{record-opened, refused-asked}
 use Rattle.accessors.proofs.Answers.{at-absent, at-given}
 use native.Mathlib.Omega.{arith}
 use borrow.Author.Needs.{needs}
@@ -14,7 +15,7 @@ fine : (c : tie.Else1) → faultOf (c .before .before .before .args .b .now) ≡
 fine c = sym (c .before .fault .ensures) ∙ c .if1 .left
 
 held : (c : tie.Else1) → Held (c .before .before .before .args .b .now)
-held c = fault-held _ (fine c)
+held c = record-opened _ (fine c) .0 .held
 
 fault-requires : tie.Need-fault-requires
 fault-requires c κs = search needs
@@ -24,7 +25,7 @@ unfolding nameAtIn
 returns c = refused-asked _ _ (c .before .fault .result) (c .before .fault .ensures) (c .if1 .taken)
 
 head-at-requires : tie.Need-head-at-requires
-head-at-requires c κs = held c .long
+head-at-requires c κs = omega (arith, held c .long)
 
 returns-2 : tie.Need-returns-2
 returns-2 c = at-absent _ (fine (c .before .before .before)) _ (rw (← c .before .before .head-at .ensures .names .0) (c .if2 .taken))
@@ -33,7 +34,7 @@ part-of-requires : tie.Need-part-of-requires
 part-of-requires c κs =
     let h = held (c .before .before .before) in
     let n = c .before .before .head-at .ensures in
-    (h .long, n .names, n .subgraph, n .translation, omega (arith, n .names))
+    (n .names, n .subgraph, n .translation, omega (arith, n .names, h .long))
 
 returns-3 : tie.Need-returns-3
 returns-3 c = rw (c .part-of .ensures .0, c .part-of .ensures .1) (at-given _ (fine (c .before .before .before .before)) _ (rw (← c .before .before .before .head-at .ensures .names .0) (c .before .if2 .left)))

@@ -1,14 +1,15 @@
 -- Refused for a long desc, then for want of room, else written.
-use native.Mathlib.Omega.{arith}
 use mathlib.Core.Path.{_≡_, ap, _∙_}
 use lib.ListN.{length}
+use native.Mathlib.Omega.{arith}
 use Rattle.model.specs.Bytes.{Bytes}
+use Rattle.model.specs.Opening.{gives}
 use Rattle.model.specs.Describe.{describePath}
-use Rattle.describe.specs.Direction.{toldOf, pathTold}
-use Rattle.description_text.specs.Legs.{legsAt}
-use Rattle.export.proofs.Answering.{refused-answers, wrote-answers}
-use Rattle.describe.proofs.Tests.{told-path, told-long, told-not, told-all, descs-short}
-use Rattle.description_text.proofs.Runs.{part-size}
+use Rattle.model.specs.Written.{within}
+use Rattle.export.proofs.Answering.{refused-answers, no-room, written-answers}
+use Rattle.describe.specs.Steps.{stepsAt}
+use Rattle.describe.specs.Direction.{textWritten, pathText}
+use Rattle.describe.proofs.Tests.{path-read, long-descs, short-descs}
 use borrow.Author.Needs.{needs}
 use Rattle.describe.proofs.relationship.describe_path.Statement.{statement}
 use Rattle.describe.proofs.relationship.describe_path.Tie as tie
@@ -17,20 +18,25 @@ use Rattle.describe.proofs.relationship.describe_path.Tie as tie
 abbrev start : tie.After-part → tie.Start
 start n = n .before .before .before .before .before .before .before .before .before .before
 
--- the text that is measured and written is that of the path
-abbrev written : tie.After-part → Bytes
-written n =
+-- the text that is measured and written
+abbrev text : tie.After-part → Bytes
+text n =
     let a = start n .args in
     let g = n .before .before .after-last-empty .result in
-    describePath (n .part .result .now) (legsAt (a .path .now) (g .entry) (g .body) (g .count)) (a .from .now) (a .to .now)
+    describePath (n .part .result .now) (stepsAt (a .path .now) (g .entry) (g .body) (g .count)) (a .from .now) (a .to .now)
 
-told : (n : tie.After-part) → pathTold (start n .args .path .now) (start n .args .from .now) (start n .args .to .now) ≡ written n
-told n =
+-- it is that of the path, and the descs are short
+asked : (n : tie.After-part) → let a = start n .args in
+    textWritten (pathText (a .path .now) (a .from .now) (a .to .now)) (a .from .now) (a .to .now) (length (a .out .now)) ≡ within (length (a .out .now)) (gives (text n))
+asked n =
     let f = n .before .before in
     let r = f .before in
+    let k = r .before .before in
     let a = start n .args in
-    told-path (a .path .now) (r .read16 .result) (n .before .read162 .result) (n .part .result .now) _ (a .from .now) (a .to .now)
-    (r .read16 .ensures .0) (n .before .read162 .ensures .0) (n .part .ensures) (f .after-last-empty .ensures .same)
+    ap (λ (x : Bytes). textWritten x (a .from .now) (a .to .now) (length (a .out .now)))
+    (path-read (a .path .now) (r .read16 .result) (n .before .read162 .result) (n .part .result .now) _ (a .from .now) (a .to .now)
+    (r .read16 .ensures .0) (n .before .read162 .ensures .0) (n .part .ensures) (f .after-last-empty .ensures .same))
+    ∙ short-descs (text n) (a .from .now) (a .to .now) _ (k .short .result) (k .short .ensures) (r .before .if1 .left)
 
 short-requires : tie.Need-short-requires
 short-requires c κs = search needs
@@ -39,7 +45,7 @@ returns : tie.Need-returns
 returns c =
     let k = c .before in
     let a = k .before .before .before .before .before .args in
-    refused-answers _ (a .out .now) 18 (told-long (pathTold (a .path .now) (a .from .now) (a .to .now)) (a .from .now) (a .to .now) _ (k .short .result) (k .short .ensures) (c .if1 .taken))
+    refused-answers _ (a .out .now) 18 (long-descs (pathText (a .path .now) (a .from .now) (a .to .now)) (a .from .now) (a .to .now) _ (k .short .result) (k .short .ensures) (c .if1 .taken))
 
 read16-requires : tie.Need-read16-requires
 read16-requires c κs = search needs
@@ -68,48 +74,31 @@ read16-requires-2 c κs = search needs
 part-requires : tie.Need-part-requires
 part-requires c κs = search needs
 
-path-length-requires : tie.Need-path-length-requires
-path-length-requires c κs =
-    let f = c .before .before in
-    let r = f .before in
-    let k = r .before .before in
-    let a = k .before .before .before .before .before .args in (
-      f .after-last-empty .ensures .stands,
-      omega (arith, part-size _ (c .before .read162 .result) (c .part .result .now) (c .part .ensures), c .before .read162 .ensures .1),
-      descs-short (a .from .now) (a .to .now) (k .short .result) (k .short .ensures) (r .before .if1 .left),
-    )
+slice-aggregate-append-path : tie.Need-slice-aggregate-append-path
+slice-aggregate-append-path c = search needs
+
+append-path-requires : tie.Need-append-path-requires
+append-path-requires c κs = search needs
 
 returns-2 : tie.Need-returns-2
 returns-2 c =
-    let n = c .before .before in
-    let f = n .before .before in
-    let r = f .before in
-    let k = r .before .before in
-    let a = k .before .before .before .before .before .args in
-    refused-answers _ (a .out .now) 17
-    (ap (λ (x : Bytes). toldOf x (a .from .now) (a .to .now) (length (a .out .now))) (told n)
-    ∙ told-not (written n) (a .from .now) (a .to .now) _ (k .short .result) (k .short .ensures) (r .before .if1 .left) (omega (arith, c .before .path-length .ensures)))
+    let m = c .before .before in
+    let n = m .before .before in
+    no-room _ (start n .args .out .now) (text n) (asked n) (m .append-path .ensures) (c .if2 .taken)
 
-put-path-requires : tie.Need-put-path-requires
-put-path-requires c κs =
-    let l = c .before .before in
-    (l .before .before .before .after-last-empty .ensures .stands, omega (arith, l .path-length .ensures))
+append-path-requires-2 : tie.Need-append-path-requires-2
+append-path-requires-2 c κs = search needs
 
 same-length : tie.Need-same-length
 same-length c = search needs
 
 returns-3 : tie.Need-returns-3
 returns-3 c =
-    let p = c .before .before in
-    let n = p .before .before .before .before in
-    let f = n .before .before in
-    let r = f .before in
-    let k = r .before .before in
-    let a = k .before .before .before .before .before .args in
-    wrote-answers _ (a .out .now) (written n) (p .put-path .result) (p .put-path .last .0)
-    (ap (λ (x : Bytes). toldOf x (a .from .now) (a .to .now) (length (a .out .now))) (told n)
-    ∙ told-all (written n) (a .from .now) (a .to .now) _ (k .short .result) (k .short .ensures) (r .before .if1 .left) (omega (arith, p .before .before .before .path-length .ensures)))
-    (p .put-path .ensures)
+    let w = c .before .before in
+    let d = w .before .before in
+    let m = d .before .before in
+    let n = m .before .before in
+    written-answers _ (start n .args .out .now) (text n) (asked n) (m .append-path .ensures) (d .if2 .left) (omega (arith, start n .good)) (w .append-path2 .ensures)
 
 pub describe-path-spec : {M : Type 1} → statement M
 describe-path-spec =
@@ -126,8 +115,9 @@ describe-path-spec =
     add-part
     read16-requires-2
     part-requires
-    path-length-requires
+    slice-aggregate-append-path
+    append-path-requires
     returns-2
-    put-path-requires
+    append-path-requires-2
     same-length
     returns-3)

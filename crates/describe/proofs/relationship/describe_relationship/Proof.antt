@@ -1,4 +1,4 @@
--- What is found is told.
+-- What is found is described.
 use borrow.Author.Needs.{needs}
 use Rattle.describe.proofs.relationship.describe_relationship.Statement.{statement}
 use Rattle.describe.proofs.relationship.describe_relationship.Tie as tie

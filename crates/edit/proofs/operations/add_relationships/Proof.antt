@@ -45,8 +45,8 @@ returns-2 c =
     let s = c .before .before .before .before .before .before .before .before .before .before .before in
     let a = s .args in
     let e = both-done (a .buffer .now) (a .other .now) (λ g h. keptOr (a .buffer .now) (withRelationships h g)) (sym (c .before .before .before .before .before .before .before .fault-of-both .ensures) ∙ c .before .before .before .before .before .before .if1 .left) .2 in
-    let r = c .before .before .change .ensures in
-    (r .0 ∙ sym (ap (λ (o : Outcome). o .number) e), r .1 ∙ sym (ap (λ (o : Outcome). o .buffer) e))
+    let r = c .before .before .change .ensures ∙ sym e in
+    (ap (λ (o : Outcome). o .number) r, ap (λ (o : Outcome). o .buffer) r)
 
 pub add-relationships-spec : {M : Type 1} → statement M
 add-relationships-spec =

@@ -1,5 +1,6 @@
 -- As the function of both kinds.
-use Rattle.model.specs.Outcome.{makeSubgraphOf}
+use mathlib.Core.Path.{ap}
+use Rattle.model.specs.Outcome.{Outcome, makeSubgraphOf}
 use borrow.Author.Needs.{needs}
 use Rattle.edit.proofs.operations.make_subgraph_of.Statement.{statement}
 use Rattle.edit.proofs.operations.make_subgraph_of.Tie as tie
@@ -12,7 +13,7 @@ same-length c = search needs
 
 returns : tie.Need-returns
 unfolding makeSubgraphOf
-returns c = c .before .before .relate-to .ensures
+returns c = let e = c .before .before .relate-to .ensures in (ap (λ (o : Outcome). o .number) e, ap (λ (o : Outcome). o .buffer) e)
 
 pub make-subgraph-of-spec : {M : Type 1} → statement M
 make-subgraph-of-spec = tie.close (tie.spec relate-to-requires same-length returns)

@@ -5,15 +5,6 @@ use lib.ListN.{length}
 use mathlib.Core.Path.{_≡_}
 use Rattle.examples.proofs.program.program_on.Statement.{statement}
 use Rattle.examples.proofs.program.program_on.Tie as tie
-use Rattle.examples.proofs.program.program_on.Reads as reads
-use Rattle.examples.proofs.program.program_on.Lts as lts
-use Rattle.test_examples.proofs.print.Reads as print-reads
-use Rattle.test_examples.proofs.print_number.Reads as print-number-reads
-use Rattle.test_examples.proofs.put.Reads as put-reads
-use Rattle.test_examples.proofs.put_text.Reads as put-text-reads
-use Rattle.io.proofs.large_buffer.Reads as large-buffer-reads
-use Rattle.report.proofs.program.Reads as program-reads
-use Rattle.text.proofs.part.Reads as part-reads
 
 abbrev Inv-loop : tie.InvT-loop
 Inv-loop size out₀ n₀ counter₀ out n counter = length out ≡ length out₀

@@ -1,18 +1,15 @@
--- A fault is the refusal; else each value is measured, and all are written if all fit.
+-- A fault is the refusal; else all values are written if all fit.
 use mathlib.Core.Path.{_≡_, sym, ap, _∙_}
+use mathlib.Core.Bool.{true}
 use lib.ListN.{length}
-use Rattle.model.specs.Layout.{shown}
-use Rattle.model.specs.Record.{GraphName}
-use Rattle.model.specs.Writing.{relationsTag}
-use Rattle.model.specs.Questions.{faultOf}
-use Rattle.model.specs.Written.{tagsOf, allWithin, tagsWritten}
-use Rattle.record.proofs.Asked.{refused-asked}
-use Rattle.export.specs.Places.{RecordIn}
-use Rattle.export.specs.Texts.{valueSize}
-use Rattle.export.proofs.Opened.{opened, asked-shown}
-use Rattle.export.proofs.Values.{size-alone}
-use Rattle.export.proofs.Answering.{refused-tags, wrote-tags, name-not, subgraph-not, translation-not, all-within}
 use native.Mathlib.Omega.{arith}
+use borrow.Author.Tests.{not-true, not-false}
+use Rattle.model.specs.Layout.{shown}
+use Rattle.model.specs.Opening.{faultOf}
+use Rattle.model.specs.Written.{Tags, tagsOf, allWithin, fits, tagsWritten}
+use Rattle.record.proofs.Opening.{asked-shown, refused-asked}
+use Rattle.export.proofs.Opened.{opened}
+use Rattle.export.proofs.Answering.{refused-tags, wrote-tags, tags-not, tags-all, each-fits}
 use borrow.Author.Needs.{needs}
 use Rattle.export.proofs.tags.set_tags.Statement.{statement}
 use Rattle.export.proofs.tags.set_tags.Tie as tie
@@ -23,24 +20,12 @@ start c = c .before .before .before .before .before .before
 clear : (c : tie.Else1) → faultOf (start c .args .b .now) ≡ 0
 clear c = sym (c .before .fault .ensures) ∙ c .if1 .left
 
-holds : (c : tie.Else1) → RecordIn (start c .args .b .now)
-holds c = opened (start c .args .b .now) (clear c)
+abbrev values : tie.Else1 → Tags
+values c = tagsOf (shown (start c .args .b .now))
 
--- the size of each value, as it was measured
-abbrev own : tie.After-own-length → GraphName
-own c = shown (start (c .before .before .before .before .before) .args .b .now)
-
-name-size : (c : tie.After-own-length) → c .own-length .result ≡ valueSize (own c .name)
-unfolding shown
-name-size c = c .own-length .ensures .0 ∙ size-alone (own c .name)
-
-subgraph-size : (c : tie.After-tag-length) → c .tag-length .result ≡ valueSize (relationsTag (own (c .before .before) .subgraph))
-unfolding shown
-subgraph-size c = let o = c .before .before in rw (o .before .before .before .before .table-at .ensures .0, o .before .before .before .pair-count .ensures .0) at (c .tag-length .ensures)
-
-translation-size : (c : tie.After-tag-length2) → c .tag-length2 .result ≡ valueSize (relationsTag (own (c .before .before .before .before) .translation))
-unfolding shown
-translation-size c = let o = c .before .before .before .before in rw (o .before .before .table-at2 .ensures .0, o .before .pair-count2 .ensures .0) at (c .tag-length2 .ensures)
+each : (d : tie.Else2) → let e = d .before .before in let a = start e .args in
+    (fits (values e .name) (length (a .name .now)) ≡ true) × (fits (values e .subgraph) (length (a .subgraph .now)) ≡ true) × (fits (values e .translation) (length (a .translation .now)) ≡ true)
+each d = each-fits (values (d .before .before)) _ _ _ (d .before .all-fit .result) (d .before .all-fit .ensures) (not-false _ (d .if2 .left))
 
 fault-requires : tie.Need-fault-requires
 fault-requires c κs = search needs
@@ -53,79 +38,26 @@ returns c =
     refused-tags _ (a .name .now) (a .subgraph .now) (a .translation .now) (k .fault .result)
     (ap (allWithin _ _ _) (sym (refused-asked (a .b .now) tagsOf (k .fault .result) (k .fault .ensures) (c .if1 .taken))))
 
-table-at-requires : tie.Need-table-at-requires
-table-at-requires c κs = holds c .size
-
-pair-count-requires : tie.Need-pair-count-requires
-pair-count-requires c κs = holds (c .before) .size
-
-table-at-requires-2 : tie.Need-table-at-requires-2
-table-at-requires-2 c κs = holds (c .before .before) .size
-
-pair-count-requires-2 : tie.Need-pair-count-requires-2
-pair-count-requires-2 c κs = holds (c .before .before .before) .size
-
-own-length-requires : tie.Need-own-length-requires
-own-length-requires c κs = (holds (c .before .before .before .before), omega arith)
+all-fit-requires : tie.Need-all-fit-requires
+all-fit-requires c κs = let s = start c in (opened _ (clear c), omega (arith, s .good), omega (arith, s .good), omega (arith, s .good))
 
 returns-2 : tie.Need-returns-2
-unfolding tagsWritten shown
+unfolding tagsWritten
 returns-2 c =
-    let k = c .before .before .before .before .before .before in
-    let a = start k .args in
+    let m = c .before in
+    let e = m .before in
+    let a = start e .args in
     refused-tags _ (a .name .now) (a .subgraph .now) (a .translation .now) 17
-    (ap (allWithin _ _ _) (asked-shown (a .b .now) tagsOf (clear k))
-    ∙ name-not (tagsOf (shown (a .b .now))) (length (a .name .now)) (length (a .subgraph .now)) (length (a .translation .now)) (omega (arith, name-size (c .before))))
+    (ap (allWithin _ _ _) (asked-shown (a .b .now) tagsOf (clear e)) ∙ tags-not (values e) _ _ _ (m .all-fit .result) (m .all-fit .ensures) (not-true _ (c .if2 .taken)))
 
-tag-length-requires : tie.Need-tag-length-requires
-tag-length-requires c κs =
-    let k = c .before .before .before .before .before .before in
-    rw (c .before .before .before .before .before .table-at .ensures .0, c .before .before .before .before .pair-count .ensures .0) (holds k .subgraph)
+write-name-requires : tie.Need-write-name-requires
+write-name-requires c κs = let d = c .before in (opened _ (clear (d .before .before)), each d .0)
 
-returns-3 : tie.Need-returns-3
-unfolding tagsWritten shown
-returns-3 c =
-    let k = c .before .before .before .before .before .before .before .before in
-    let a = start k .args in
-    refused-tags _ (a .name .now) (a .subgraph .now) (a .translation .now) 17
-    (ap (allWithin _ _ _) (asked-shown (a .b .now) tagsOf (clear k))
-    ∙ subgraph-not (tagsOf (shown (a .b .now))) (length (a .name .now)) (length (a .subgraph .now)) (length (a .translation .now))
-    (omega (arith, name-size (c .before .before .before))) (omega (arith, subgraph-size (c .before))))
+write-relations-requires : tie.Need-write-relations-requires
+write-relations-requires c κs = let d = c .before .before .before .before .before in (opened _ (clear (d .before .before)), each d .1)
 
-tag-length-requires-2 : tie.Need-tag-length-requires-2
-tag-length-requires-2 c κs =
-    let k = c .before .before .before .before .before .before .before .before in
-    rw (c .before .before .before .before .before .table-at2 .ensures .0, c .before .before .before .before .pair-count2 .ensures .0) (holds k .translation)
-
-returns-4 : tie.Need-returns-4
-unfolding tagsWritten shown
-returns-4 c =
-    let k = c .before .before .before .before .before .before .before .before .before .before in
-    let a = start k .args in
-    refused-tags _ (a .name .now) (a .subgraph .now) (a .translation .now) 17
-    (ap (allWithin _ _ _) (asked-shown (a .b .now) tagsOf (clear k))
-    ∙ translation-not (tagsOf (shown (a .b .now))) (length (a .name .now)) (length (a .subgraph .now)) (length (a .translation .now))
-    (omega (arith, name-size (c .before .before .before .before .before))) (omega (arith, subgraph-size (c .before .before .before))) (omega (arith, translation-size (c .before))))
-
-put-name-requires : tie.Need-put-name-requires
-unfolding shown
-put-name-requires c κs =
-    let k = c .before .before .before .before .before .before .before .before .before .before .before in
-    (holds k, omega (arith, name-size (c .before .before .before .before .before .before), c .before .before .before .before .before .if2 .left))
-
-put-tag-requires : tie.Need-put-tag-requires
-unfolding shown
-put-tag-requires c κs =
-    let k = c .before .before .before .before .before .before .before .before .before .before .before .before .before .before .before in
-    rw (c .before .before .before .before .before .before .before .before .before .before .before .before .before .before .table-at .ensures .0, c .before .before .before .before .before .before .before .before .before .before .before .before .before .pair-count .ensures .0)
-    (holds k .subgraph, omega (arith, subgraph-size (c .before .before .before .before .before .before .before .before), c .before .before .before .before .before .before .before .if3 .left))
-
-put-tag-requires-2 : tie.Need-put-tag-requires-2
-unfolding shown
-put-tag-requires-2 c κs =
-    let k = c .before .before .before .before .before .before .before .before .before .before .before .before .before .before .before .before .before .before .before in
-    rw (c .before .before .before .before .before .before .before .before .before .before .before .before .before .before .before .before .table-at2 .ensures .0, c .before .before .before .before .before .before .before .before .before .before .before .before .before .before .before .pair-count2 .ensures .0)
-    (holds k .translation, omega (arith, translation-size (c .before .before .before .before .before .before .before .before .before .before), c .before .before .before .before .before .before .before .before .before .if4 .left))
+write-relations-requires-2 : tie.Need-write-relations-requires-2
+write-relations-requires-2 c κs = let d = c .before .before .before .before .before .before .before .before .before in (opened _ (clear (d .before .before)), each d .2)
 
 same-length : tie.Need-same-length
 same-length c = search needs
@@ -136,25 +68,20 @@ same-length-2 c = search needs
 same-length-3 : tie.Need-same-length-3
 same-length-3 c = search needs
 
-returns-5 : tie.Need-returns-5
-unfolding tagsWritten shown
-returns-5 c =
+returns-3 : tie.Need-returns-3
+unfolding tagsWritten
+returns-3 c =
     let z = c .before .before in
     let y = z .before .before .before .before in
     let x = y .before .before .before .before in
-    let m = x .before .before in
-    let l = m .before .before .before in
-    let o = l .before .before in
-    let k = o .before .before .before .before .before in
-    let a = start k .args in
-    wrote-tags _ (a .name .now) (a .subgraph .now) (a .translation .now) (tagsOf (shown (a .b .now))) (x .put-name .result) (y .put-tag .result) (z .put-tag2 .result)
-    (x .put-name .last .0) (y .put-tag .last .0) (z .put-tag2 .last .0)
-    (ap (allWithin _ _ _) (asked-shown (a .b .now) tagsOf (clear k))
-    ∙ all-within (tagsOf (shown (a .b .now))) (length (a .name .now)) (length (a .subgraph .now)) (length (a .translation .now))
-    (omega (arith, name-size o, l .before .if2 .left)) (omega (arith, subgraph-size l, m .before .before .if3 .left)) (omega (arith, translation-size (m .before), m .if4 .left)))
-    (x .put-name .ensures)
-    (rw (o .before .before .before .before .table-at .ensures .0, o .before .before .before .pair-count .ensures .0) at (y .put-tag .ensures))
-    (rw (o .before .before .table-at2 .ensures .0, o .before .pair-count2 .ensures .0) at (z .put-tag2 .ensures))
+    let d = x .before .before in
+    let m = d .before in
+    let e = m .before in
+    let a = start e .args in
+    wrote-tags _ (a .name .now) (a .subgraph .now) (a .translation .now) (values e) (x .write-name .result) (y .write-relations .result) (z .write-relations2 .result)
+    (x .write-name .last .0) (y .write-relations .last .0) (z .write-relations2 .last .0)
+    (ap (allWithin _ _ _) (asked-shown (a .b .now) tagsOf (clear e)) ∙ tags-all (values e) _ _ _ (m .all-fit .result) (m .all-fit .ensures) (not-false _ (d .if2 .left)))
+    (x .write-name .ensures) (y .write-relations .ensures) (z .write-relations2 .ensures)
 
 pub set-tags-spec : {M : Type 1} → statement M
 set-tags-spec =
@@ -162,20 +89,12 @@ set-tags-spec =
     (tie.spec
     fault-requires
     returns
-    table-at-requires
-    pair-count-requires
-    table-at-requires-2
-    pair-count-requires-2
-    own-length-requires
+    all-fit-requires
     returns-2
-    tag-length-requires
-    returns-3
-    tag-length-requires-2
-    returns-4
-    put-name-requires
-    put-tag-requires
-    put-tag-requires-2
+    write-name-requires
+    write-relations-requires
+    write-relations-requires-2
     same-length
     same-length-2
     same-length-3
-    returns-5)
+    returns-3)

@@ -1,20 +1,12 @@
--- The three tests of the first field decide, in their order.
-use mathlib.Core.Path.{sym, _∙_}
-use native.Mathlib.Omega.{arith}
-use lib.Seq.{length-take-le}
+-- The name's tag, or another.
+use mathlib.Core.Path.{_∙_}
 use Rattle.fields.specs.Fields.{classifyGaf}
 use borrow.Author.Needs.{needs}
 use Rattle.fields.proofs.field.gaf_line.Statement.{statement}
 use Rattle.fields.proofs.field.gaf_line.Tie as tie
 
-slice-aggregate-head : tie.Need-slice-aggregate-head
-slice-aggregate-head c = sym (length-take-le 3 (c .before .before .args .line .now) (omega arith))
-
-slice-aggregate-same : tie.Need-slice-aggregate-same
-slice-aggregate-same c = search needs
-
-same-requires : tie.Need-same-requires
-same-requires c κs = search needs
+is-tag-requires : tie.Need-is-tag-requires
+is-tag-requires c κs = search needs
 
 name-line-requires : tie.Need-name-line-requires
 name-line-requires c κs = search needs
@@ -22,67 +14,26 @@ name-line-requires c κs = search needs
 returns : tie.Need-returns
 unfolding classifyGaf
 returns c =
+    let o = c .before in
     let e = c .name-line .ensures in
-    (e .0 ∙ rw (← c .before .before .same .ensures, c .before .if1 .taken), e .1)
+    (e .0 ∙ rw (← o .before .is-tag .ensures, o .if1 .taken), e .1)
 
-slice-aggregate-same-2 : tie.Need-slice-aggregate-same-2
-slice-aggregate-same-2 c = search needs
-
-same-requires-2 : tie.Need-same-requires-2
-same-requires-2 c κs = search needs
-
-relation-requires : tie.Need-relation-requires
-relation-requires c κs = search needs
+tagged-relation-requires : tie.Need-tagged-relation-requires
+tagged-relation-requires c κs = search needs
 
 returns-2 : tie.Need-returns-2
 unfolding classifyGaf
 returns-2 c =
-    let b = c .before .before in
-    let o = b .before .before in
-    let e = c .relation .ensures in
-    (e .0 ∙ rw (← o .before .same .ensures, o .if1 .left, ← b .same2 .ensures, c .before .if2 .taken), e .1)
-
-slice-aggregate-same-3 : tie.Need-slice-aggregate-same-3
-slice-aggregate-same-3 c = search needs
-
-same-requires-3 : tie.Need-same-requires-3
-same-requires-3 c κs = search needs
-
-relation-requires-2 : tie.Need-relation-requires-2
-relation-requires-2 c κs = search needs
-
-returns-3 : tie.Need-returns-3
-unfolding classifyGaf
-returns-3 c =
-    let d = c .before .before in
-    let b = d .before .before .before in
-    let o = b .before .before in
-    let e = c .relation2 .ensures in
-    (e .0 ∙ rw (← o .before .same .ensures, o .if1 .left, ← b .same2 .ensures, d .before .before .if2 .left, ← d .same3 .ensures, c .before .if3 .taken), e .1)
-
-returns-4 : tie.Need-returns-4
-unfolding classifyGaf
-returns-4 c =
-    let d = c .before in
-    let b = d .before .before .before in
-    let o = b .before .before in
-    (rw (← o .before .same .ensures, o .if1 .left, ← b .same2 .ensures, d .before .before .if2 .left, ← d .same3 .ensures, c .if3 .left), tt)
+    let o = c .before in
+    let e = c .tagged-relation .ensures in
+    (e .0 ∙ rw (← o .before .is-tag .ensures, o .if1 .left), e .1)
 
 pub gaf-line-spec : {M : Type 1} → statement M
 gaf-line-spec =
     tie.close
     (tie.spec
-    slice-aggregate-head
-    slice-aggregate-same
-    same-requires
+    is-tag-requires
     name-line-requires
     returns
-    slice-aggregate-same-2
-    same-requires-2
-    relation-requires
-    returns-2
-    slice-aggregate-same-3
-    same-requires-3
-    relation-requires-2
-    returns-3
-    returns-4)
+    tagged-relation-requires
+    returns-2)

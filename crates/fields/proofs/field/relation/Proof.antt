@@ -1,5 +1,5 @@
 -- The answer about the two parts gives the relation, its places counted from the start of f (`Parts`).
-use Rattle.fields.proofs.Parts.{relation-wrong, relation-at}
+use Rattle.fields.proofs.Parts.{relation-absent, relation-at}
 use native.Mathlib.Omega.{arith}
 use borrow.Author.Needs.{needs}
 use Rattle.fields.proofs.field.relation.Statement.{statement}
@@ -34,7 +34,7 @@ returns : tie.Need-returns
 returns c =
     let k = c .before .before in
     let a = k .before .before .before .args in
-    (relation-wrong (a .f .now) (a .from) (k .before .before .before .pre) (a .separator) (a .number) (a .kind) (k .two-parts .result) (k .two-parts .ensures) (c .enum-told .given .1), tt)
+    (relation-absent (a .f .now) (a .from) (k .before .before .before .pre) (a .separator) (a .number) (a .kind) (k .two-parts .result) (k .two-parts .ensures) (c .enum-told .given .1), tt)
 
 returns-2 : tie.Need-returns-2
 returns-2 c =

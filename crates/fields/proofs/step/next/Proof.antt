@@ -1,6 +1,6 @@
 -- `step::next` meets its contract: a walk of its MIR, by hand. A local that holds the tally is lent to `read_field` for a lifetime
 -- that the walk makes and ends; it comes back at the tally that was moved on, and goes into the result beside the field.
-use mathlib.Core.Path.{refl, ap}
+use mathlib.Core.Path.{refl, ap, subst}
 use Prim.Native.Nat.{ℕ, _<_, _≤_, _^_}
 use mathlib.Core.List.{List, [], _∷_}
 use lib.ListN.{length}
@@ -17,8 +17,8 @@ use ghost.Atoms.{Atoms, sem}
 use contract.Monad.{Fun, fact}
 use contract.Running.{givenOf, tables, tablesOf}
 use types.Kit.{Given, ‵, raw, _⊛_, ⋆, some, later, _$_, _∵_, !, qed, by, move, drop, use1, use2, use3, rewrite, split, join, pick, fsplit, fjoin, fpick, fpack, suffices, frame, await, done}
-use types.Part.{agg, whole, sub, look-in}
-use types.Run.{look, init, forget, stop as here, fld, from, load, of-opd, addr, and-then, no-more, assigns, land, returns, enter, alloc1, alloc0, params1, pass1, pass0, free1, free0}
+use types.Part.{agg}
+use types.Run.{look, init, forget, stop as here, from, load, of-opd, addr, and-then, no-more, assigns, land, returns, enter, alloc1, alloc0, params1, pass1, pass0, free1, free0}
 use types.SemTy.{Body}
 use types.Tokens.{lft-new, lft-end}
 use sound.WpLaws.{FmC, fmOf, WpFn-mono}
@@ -43,9 +43,10 @@ use denote.Triple.Table.{entered, cited}
 use denote.Triple.Walked.{says, needs, Stays, stay-none, stay-none-slice, walkOf, goes-none, goes-none-slice, Walks, ends-at, walked, walk-meets}
 use denote.Exit.{yes}
 use denote.Triple.Clauses.{ensured, lasts}
-use Rattle.fields.specs.Rest.{Place, counted, Reads}
+use Rattle.fields.specs.Rest.{Position, Reads}
 use Rattle.fields.specs.declared.field.Source.{Source}
 use Rattle.fields.specs.declared.step.Field.{Field}
+use Rattle.fields.specs.declared.step.FieldRead.{FieldRead}
 use Rattle.fields.specs.declared.step.Tally.{Tally}
 use Rattle.fields.proofs.field.Source as S
 use Rattle.fields.proofs.field.Source.Laws as S′
@@ -71,9 +72,13 @@ stayed = (stay-none (λ _. S.the-row) yes, (stay-none-slice (0 ∷ []) tt (plain
 abbrev Read : {M : Type 1} (𝓤 : URA M) (H : Heap 𝓤) (A : Atoms 𝓤) (mem : Memory → SProp 𝓤) (run : Routine → Fun 𝓤) → Contract 𝓤
 Read 𝓤 H A mem run = tripleOf 𝓤 H A read.signature (read.spec 𝓤 H A mem run)
 
+-- a field with the tally that counts it
+abbrev counted : Field → Tally → FieldRead
+counted f y = record { field = f; tally = y }
+
 -- a field and a tally are plain data, and make what the result owns
 counted-is : (f : Field) (vs : List Val) (y : Tally) → Is F.the-row f vs → Is T.the-row y (LL.vals T.the-type T′.the-laws y) → Is R.the-row (counted f y) (LL.vals R.the-type R′.the-laws (counted f y))
-counted-is f vs y f-is y-is = let p = LL.owed F.the-type F′.the-laws f vs f-is in LL.owes R.the-type R′.the-laws (counted f y) (p .0, (p .1 .0, (p .1 .1 .0, (p .1 .1 .1 .0, (p .1 .1 .1 .1 .0, (y-is, tt))))))
+counted-is f vs y f-is y-is = LL.owes R.the-type R′.the-laws (counted f y) (subst (Is F.the-row f) (LL.tells F.the-type F′.the-laws f vs f-is) f-is, (y-is, tt))
 
 module _ {M : Type 1} (𝓤 : URA M) (H : Heap 𝓤) (A : Atoms 𝓤) (W : Given 𝓤 H A) where
   -- a local that holds h is lent
@@ -116,9 +121,9 @@ module _ {M : Type 1} (𝓤 : URA M) (H : Heap 𝓤) (A : Atoms 𝓤) (W : Given
   Own = ShrSlice (named 0) κ u8 .own s (v ∷ [])
 
   abbrev Asked : Type 0
-  Asked = Place k (now s) stop at h × (stop ≤ at → at < length (now s))
+  Asked = Position k (now s) stop at h × (stop ≤ at → at < length (now s))
 
-  exits : (f : Field) (vs : List Val) (y : Tally) → Is F.the-row f vs → Is T.the-row y (T′.lowered y ∷ []) → Reads k (now s) stop at h (counted f y)
+  exits : (f : Field) (vs : List Val) (y : Tally) → Is F.the-row f vs → Is T.the-row y (T′.lowered y ∷ []) → Reads k (now s) stop at h f y
       → ent 𝓤 (⋆ 𝓤 H A ((‵ (flft κ q) ⊛ ‵ ftrue) ∷ ‵ Own ∷ [])) (Post (LL.val R.the-type R′.the-laws (counted f y)))
   exits f vs y f-is y-is e =
       qed W ((‵ (flft κ q) ⊛ ‵ ftrue) ∷ ‵ Own ∷ []) ∵
@@ -174,8 +179,8 @@ module _ {M : Type 1} (𝓤 : URA M) (H : Heap 𝓤) (A : Atoms 𝓤) (W : Given
         calls-at ! fm (Read 𝓤 H A at-mem run) known (to ν l₆ γ) (and-then ! (load ! (from ! (here !)) (look ! 18 refl)) (and-then ! (load ! (from ! (here !)) (look ! 16 refl)) (and-then ! (load ! (from ! (here !)) (look ! 14 refl)) (and-then ! (load ! (from ! (here !)) (look ! 12 refl)) (and-then ! (load ! (from ! (here !)) (look ! 5 refl)) (no-more !)))))) (λ u.
         use1 W (later (some (λ (f : Field). ((‵ (flft κ q) ⊛ ‵ (flft (ν ∷ []) fullShare) ⊛ ‵ ftrue) ⊛ ‵ (F.the-row .own f (u ∷ []))) ⊛ raw (ensured 𝓤 H A read.ended (read.clauses 𝓤 H A at-mem run) (κ, (ν ∷ [], tt)) (x ν l₆ γ) tt f)))) (id⊢ 𝓤 _) $ await ! tt $ pick ! (λ f.
         -- what `read_field` ensures, at some last tally
-        split ! $ move ! (1 ∷ []) $ use1 W (some (λ (w : Ends). ‵ (lasts read.ended (κ, (ν ∷ [], tt)) (x ν l₆ γ) w) ⊛ raw (fact 𝓤 (Reads k (now s) stop at h (counted f (last w)))))) (id⊢ 𝓤 _) $ pick ! (λ w.
-        split ! $ move ! (1 ∷ []) $ heard ! (Reads k (now s) stop at h (counted f (last w))) (λ e. fsplit ! $ drop ! $ fsplit ! $ drop ! $ fsplit ! $ drop ! $ fsplit ! $ drop ! $ fsplit ! $ move ! (1 ∷ []) $ drop ! $ move ! (1 ∷ []) $ split ! $ move ! (1 ∷ []) $
+        split ! $ move ! (1 ∷ []) $ use1 W (some (λ (w : Ends). ‵ (lasts read.ended (κ, (ν ∷ [], tt)) (x ν l₆ γ) w) ⊛ raw (fact 𝓤 (Reads k (now s) stop at h f (last w))))) (id⊢ 𝓤 _) $ pick ! (λ w.
+        split ! $ move ! (1 ∷ []) $ heard ! (Reads k (now s) stop at h f (last w)) (λ e. fsplit ! $ drop ! $ fsplit ! $ drop ! $ fsplit ! $ drop ! $ fsplit ! $ drop ! $ fsplit ! $ move ! (1 ∷ []) $ drop ! $ move ! (1 ∷ []) $ split ! $ move ! (1 ∷ []) $
         -- [the field; the tokens; the last tally; what t owns; the lender's part; _9; …; _8; …; room for _7; …; of _6 no room; _5; …]
         facts ! F.the-row (Is F.the-row) (shows 𝓤 H A F.the-row) f (u ∷ []) (λ f-is.
         land ! (from ! (here !)) (init ! 8 refl (LL.lawful F.the-type F′.the-laws 𝓤 H A W .typed f _ f-is .0)) $ rewrite ! 8 (λ (z : Val). ‵ (fat fullShare F′.mir l₇ 0 z)) (ap only (LL.tells F.the-type F′.the-laws f _ f-is)) refl $
@@ -186,9 +191,7 @@ module _ {M : Type 1} (𝓤 : URA M) (H : Heap 𝓤) (A : Atoms 𝓤) (W : Given
         facts ! T.the-row (Is T.the-row) (shows 𝓤 H A T.the-row) (last w) (T′.lowered (last w) ∷ []) (λ y-is.
         -- [_6; t's token; what t owns; _9; …; _8; …; _7; …; of _6; _5; …; _4; …; _3; …; _2; …; _1; …; room for _0; …]
         assigns ! (of-opd ! (load ! (from ! (here !)) (look ! 0 refl))) (from ! (here !)) (init ! 3 refl (LL.lawful T.the-type T′.the-laws 𝓤 H A W .typed (last w) _ y-is .0)) $
-        assigns ! (agg ! (and-then ! (load ! (from ! (fld ! refl (here !))) (look-in ! 7 (sub ! 0 refl (whole !)))) (and-then ! (load ! (from ! (fld ! refl (here !))) (look-in ! 7 (sub ! 1 refl (whole !))))
-        (and-then ! (load ! (from ! (fld ! refl (here !))) (look-in ! 7 (sub ! 2 refl (whole !)))) (and-then ! (load ! (from ! (fld ! refl (here !))) (look-in ! 7 (sub ! 3 refl (whole !))))
-        (and-then ! (load ! (from ! (fld ! refl (here !))) (look-in ! 7 (sub ! 4 refl (whole !)))) (and-then ! (load ! (from ! (here !)) (look ! 3 refl)) (no-more !)))))))) (from ! (here !))
+        assigns ! (agg ! (and-then ! (load ! (from ! (here !)) (look ! 7 refl)) (and-then ! (load ! (from ! (here !)) (look ! 3 refl)) (no-more !)))) (from ! (here !))
         (init ! 20 refl (LL.lawful R.the-type R′.the-laws 𝓤 H A W .typed (counted f (last w)) _ (counted-is f _ (last w) f-is y-is) .0)) $
         returns ! (look ! 20 refl) $ forget ! 0 refl $ forget ! 3 refl $ forget ! 5 refl $ forget ! 7 refl $ forget ! 10 refl $ forget ! 12 refl $ forget ! 14 refl $ forget ! 16 refl $ forget ! 18 refl $ forget ! 20 refl $
         move ! (20 ∷ 21 ∷ []) $ free1 ! $ move ! (18 ∷ 19 ∷ []) $ free1 ! $ move ! (16 ∷ 17 ∷ []) $ free1 ! $ move ! (14 ∷ 15 ∷ []) $ free1 ! $ move ! (12 ∷ 13 ∷ []) $ free1 ! $ move ! (10 ∷ 11 ∷ []) $ free1 ! $

@@ -1,7 +1,7 @@
 -- The line by its first field (`Steps`).
 use mathlib.Core.Path.{_≡_, sym, _∙_}
 use lib.ListN.{take}
-use Rattle.fields.proofs.Steps.{Line, ends, short-read, second-place, fields-read, gaf-size, gaf-read, strange-read}
+use Rattle.fields.proofs.Steps.{Line, ends, short-read, second-position, fields-read, gaf-size, gaf-read, unknown-read}
 use native.Mathlib.Omega.{arith}
 use borrow.Author.Needs.{needs}
 use Rattle.fields.proofs.step.next_line.Statement.{statement}
@@ -12,7 +12,7 @@ line : (k : tie.After-struct-known) → let s = k .before .before .before .befor
 line k =
     let s = k .before .before .before .before .before in
     record {
-      place = s .pre .0;
+      position = s .pre .0;
       more = s .pre .1;
       end = k .before .before .before .find-byte .ensures;
       whole = k .before .before .part .ensures;
@@ -72,13 +72,13 @@ add-next-part-3 : tie.Need-add-next-part-3
 add-next-part-3 c = search needs
 
 next-part-requires : tie.Need-next-part-requires
-next-part-requires c κs = let s = c .before in second-place (line (tested s)) (s .before .before .before .if1 .left)
+next-part-requires c κs = let s = c .before in second-position (line (tested s)) (s .before .before .before .if1 .left)
 
 returns-2 : tie.Need-returns-2
 returns-2 c =
     let s = c .before .before in
     fields-read (line (tested s)) (s .before .before .before .if1 .left) (rw (first s) at (sym (s .same .ensures) ∙ c .before .if2 .taken))
-    (c .next-part .result) (c .next-part .ensures)
+    (c .next-part .result .field) (c .next-part .result .tally) (c .next-part .ensures)
 
 is-gaf-head-requires : tie.Need-is-gaf-head-requires
 is-gaf-head-requires c κs = search needs
@@ -117,7 +117,7 @@ returns-4 c =
     let k = c .before in
     let s = k .before .before .before in
     rw (c .line-read3 .ensures)
-    (strange-read (line (tested s)) (s .before .before .before .if1 .left) (rw (first s) at (sym (s .same .ensures) ∙ k .before .before .if2 .left))
+    (unknown-read (line (tested s)) (s .before .before .before .if1 .left) (rw (first s) at (sym (s .same .ensures) ∙ k .before .before .if2 .left))
     (rw (first s) at (sym (k .before .is-gaf-head .ensures) ∙ k .if3 .left)))
 
 pub next-line-spec : {M : Type 1} → statement M

@@ -20,21 +20,12 @@ find-byte-requires c κs = search needs
 add-fields : tie.Need-add-fields
 add-fields c = search needs
 
-sub-part-2 : tie.Need-sub-part-2
-sub-part-2 c = search needs
+sub-size : tie.Need-sub-size
+sub-size c = search needs
 
-part-requires-2 : tie.Need-part-requires-2
-part-requires-2 c κs = search needs
-
-part-content-requires : tie.Need-part-content-requires
-part-content-requires c κs = search needs
-
-sub-t14 : tie.Need-sub-t14
-sub-t14 c = search needs
-
-add-t15 : tie.Need-add-t15
-add-t15 c =
-    let k = c .before .before .before in
+add-next : tie.Need-add-next
+add-next c =
+    let k = c .before in
     let x = k .before .before in
     let s = x .before .before in
     let a = s .args in
@@ -44,6 +35,12 @@ add-t15 c =
       part-before (a .source) (a .t .now) (a .stop) (a .at) (a .tally) (s .pre .0) (s .pre .1) _ (x .part .ensures)
           (k .before .separator .result) (k .before .separator .ensures) (k .find-byte .result) (k .find-byte .ensures),
     )
+
+part-requires-2 : tie.Need-part-requires-2
+part-requires-2 c κs = search needs
+
+part-content-requires : tie.Need-part-content-requires
+part-content-requires c κs = search needs
 
 returns : tie.Need-returns
 returns c =
@@ -64,9 +61,8 @@ next-part-spec =
     separator-requires
     find-byte-requires
     add-fields
-    sub-part-2
+    sub-size
+    add-next
     part-requires-2
     part-content-requires
-    sub-t14
-    add-t15
     returns)

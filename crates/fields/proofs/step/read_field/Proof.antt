@@ -17,7 +17,7 @@ use ghost.Atoms.{Atoms, sem}
 use contract.Monad.{Fun, fact}
 use contract.Running.{givenOf, tables, tablesOf}
 use types.Kit.{Given, ‵, raw, _⊛_, ⋆, some, later, _$_, _∵_, !, qed, by, move, keep, drop, use1, use2, rewrite, split, join, pick, fsplit, fsplit3, fjoin, fjoin3, feqI, suffices, frame, await, done}
-use types.Part.{agg, whole, sub, look-in}
+use types.Part.{whole, sub, look-in}
 use types.Run.{look, look-raw, init, store-raw, forget, stop as here, hop, fld, from, load, of-opd, and-then, no-more, assigns, land, returns, enter, alloc1, alloc0, params1, pass1, pass0, free1, free0}
 use types.SemTy.{Body}
 use sound.WpLaws.{FmC, fmOf, WpFn-mono}
@@ -41,9 +41,8 @@ use denote.Triple.Table.{entered, cited}
 use denote.Triple.Walked.{says, needs, Stays, stay-ref, stay-none, stay-none-slice, walkOf, goes-none, goes-none-slice, goes-ref, Walks, ends-at, walked, walk-meets}
 use denote.Exit.{yes}
 use denote.Triple.Clauses.{ensured, lasts}
-use Rattle.fields.specs.Rest.{Place, Reads}
+use Rattle.fields.specs.Rest.{Position, Reads}
 use Rattle.fields.specs.declared.field.Source.{Source}
-use Rattle.fields.specs.declared.step.Field.{Field}
 use Rattle.fields.specs.declared.step.FieldRead.{FieldRead}
 use Rattle.fields.specs.declared.step.Tally.{Tally}
 use Rattle.fields.proofs.field.Source as S
@@ -70,16 +69,12 @@ stayed = (stay-none (λ _. S.the-row) yes, (stay-none-slice (0 ∷ []) tt (plain
 abbrev Next : {M : Type 1} (𝓤 : URA M) (H : Heap 𝓤) (A : Atoms 𝓤) (mem : Memory → SProp 𝓤) (run : Routine → Fun 𝓤) → Contract 𝓤
 Next 𝓤 H A mem run = tripleOf 𝓤 H A next.signature (next.spec 𝓤 H A mem run)
 
--- the field that was read, without its tally
-abbrev alone : FieldRead → Field
-alone r = record { content = r .content; start = r .start; size = r .size; at = r .at; stop = r .stop }
-
--- a field's parts are plain data, so the parts of what `next_field` returns make what the result owns, and what the tally owns
-alone-is : (r : FieldRead) (vs : List Val) → Is R.the-row r vs → Is F.the-row (alone r) (LL.vals F.the-type F′.the-laws (alone r))
-alone-is r vs is = let o = LL.owed R.the-type R′.the-laws r vs is in LL.owes F.the-type F′.the-laws (alone r) (o .0, (o .1 .0, (o .1 .1 .0, (o .1 .1 .1 .0, (o .1 .1 .1 .1 .0, tt)))))
+-- what `next_field` returns is plain data, so its parts make what the result owns, and what the tally owns
+field-is : (r : FieldRead) (vs : List Val) → Is R.the-row r vs → Is F.the-row (r .field) (LL.vals F.the-type F′.the-laws (r .field))
+field-is r vs is = LL.owed R.the-type R′.the-laws r vs is .0
 
 tally-is : (r : FieldRead) (vs : List Val) → Is R.the-row r vs → Is T.the-row (r .tally) (LL.vals T.the-type T′.the-laws (r .tally))
-tally-is r vs is = LL.owed R.the-type R′.the-laws r vs is .1 .1 .1 .1 .1 .0
+tally-is r vs is = LL.owed R.the-type R′.the-laws r vs is .1 .0
 
 module _ {M : Type 1} (𝓤 : URA M) (H : Heap 𝓤) (A : Atoms 𝓤) (W : Given 𝓤 H A) (at-mem : Memory → SProp 𝓤) (run : Routine → Fun 𝓤) (κ κ′ : Lft) (q q′ : Share) (k : Source) (s : RefT (List ℕ)) (stop at b o : ℕ) (γ : GName) (h : Tally)
     (k-is : Is S.the-row k (EL.vals S.the-type S′.the-laws k)) (stop-fits : stop < 2 ^ 64) (at-fits : at < 2 ^ 64) where
@@ -106,7 +101,7 @@ module _ {M : Type 1} (𝓤 : URA M) (H : Heap 𝓤) (A : Atoms 𝓤) (W : Given
   Own = ShrSlice (named 0) κ u8 .own s (v ∷ [])
 
   abbrev Asked : Type 0
-  Asked = Place k (now s) stop at h × (stop ≤ at → at < length (now s))
+  Asked = Position k (now s) stop at h × (stop ≤ at → at < length (now s))
 
   -- the call of `next_field`: what it is passed, what it asks, and what is known of its result
   abbrev x : Args next.signature (κ, tt)
@@ -125,19 +120,19 @@ module _ {M : Type 1} (𝓤 : URA M) (H : Heap 𝓤) (A : Atoms 𝓤) (W : Given
       owned ! usize (Is usize) (uint-makes 𝓤 H A W w64) stop _ (refl, stop-fits) $ fjoin ! $ move ! (1 ∷ 0 ∷ []) $ fjoin ! $ owned ! S.the-row (Is S.the-row) (EL.makes S.the-type S′.the-plain 𝓤 H A) k _ k-is $ fjoin ! $
       move ! (2 ∷ 0 ∷ []) $ use2 W (raw (Next 𝓤 H A at-mem run .pre to)) (qed W ((‵ (flft κ q) ⊛ ‵ ftrue) ∷ ‵ (owns (S.the-row ∷ ShrSlice (named 0) κ u8 ∷ usize ∷ usize ∷ T.the-row ∷ []) x passed) ∷ []) ∵ says ! ok $ frame ! $ done !) $ frame ! $ done !
 
-  said : (r : FieldRead) → ent 𝓤 (ensured 𝓤 H A next.ended (next.clauses 𝓤 H A at-mem run) (κ, tt) x tt r) (fact 𝓤 (Reads k (now s) stop at h r))
-  said r = exE 𝓤 _ (λ ws. snd∗ 𝓤 (sem 𝓤 H A (lasts next.ended (κ, tt) x ws)) (fact 𝓤 (Reads k (now s) stop at h r)))
+  said : (r : FieldRead) → ent 𝓤 (ensured 𝓤 H A next.ended (next.clauses 𝓤 H A at-mem run) (κ, tt) x tt r) (fact 𝓤 (Reads k (now s) stop at h (r .field) (r .tally)))
+  said r = exE 𝓤 _ (λ ws. snd∗ 𝓤 (sem 𝓤 H A (lasts next.ended (κ, tt) x ws)) (fact 𝓤 (Reads k (now s) stop at h (r .field) (r .tally))))
 
-  exits : (r : FieldRead) (vs : List Val) → Is R.the-row r vs → Reads k (now s) stop at h r
-      → ent 𝓤 (⋆ 𝓤 H A (‵ (fobs γ (T.the-row .coded .code (r .tally))) ∷ ‵ (fbor κ′ (Body (mem T.the-row) b o γ)) ∷ ‵ (flft κ′ q′) ∷ (‵ (flft κ q) ⊛ ‵ ftrue) ∷ ‵ Own ∷ [])) (Post (LL.val F.the-type F′.the-laws (alone r)))
+  exits : (r : FieldRead) (vs : List Val) → Is R.the-row r vs → Reads k (now s) stop at h (r .field) (r .tally)
+      → ent 𝓤 (⋆ 𝓤 H A (‵ (fobs γ (T.the-row .coded .code (r .tally))) ∷ ‵ (fbor κ′ (Body (mem T.the-row) b o γ)) ∷ ‵ (flft κ′ q′) ∷ (‵ (flft κ q) ⊛ ‵ ftrue) ∷ ‵ Own ∷ [])) (Post (LL.val F.the-type F′.the-laws (r .field)))
   exits r vs is e =
       qed W (‵ (fobs γ (T.the-row .coded .code (r .tally))) ∷ ‵ (fbor κ′ (Body (mem T.the-row) b o γ)) ∷ ‵ (flft κ′ q′) ∷ (‵ (flft κ q) ⊛ ‵ ftrue) ∷ ‵ Own ∷ []) ∵
-      suffices ! _ (ends-at 𝓤 H A read-field.ended stayed (read-field.clauses 𝓤 H A at-mem run) W (((κ, (κ′, tt)), (q, (q′, tt)), tt, a, vals), tt) (LL.val F.the-type F′.the-laws (alone r)) (alone r) (tt, (tt, (tt, (tt, (r .tally, tt))))) (tt, (tt, (tt, (tt, (tt, tt)))))) $ says ! e $
+      suffices ! _ (ends-at 𝓤 H A read-field.ended stayed (read-field.clauses 𝓤 H A at-mem run) W (((κ, (κ′, tt)), (q, (q′, tt)), tt, a, vals), tt) (LL.val F.the-type F′.the-laws (r .field)) (r .field) (tt, (tt, (tt, (tt, (r .tally, tt))))) (tt, (tt, (tt, (tt, (tt, tt)))))) $ says ! e $
       move ! (3 ∷ []) $ split ! $ move ! (4 ∷ 1 ∷ []) $ join ! $ move ! (1 ∷ 0 ∷ []) $ join ! $ frame ! $
       -- [obs; the borrow; what t owns]
       feqI ! (List Val) (vptr b o ∷ []) (vptr b o ∷ []) refl $ fjoin3 ! $ nothing ! $ move ! (1 ∷ 0 ∷ []) $ fjoin ! $ owned ! usize (Is usize) (uint-makes 𝓤 H A W w64) at _ (refl, at-fits) $ fjoin ! $
       owned ! usize (Is usize) (uint-makes 𝓤 H A W w64) stop _ (refl, stop-fits) $ fjoin ! $ move ! (1 ∷ 0 ∷ []) $ fjoin ! $ owned ! S.the-row (Is S.the-row) (EL.makes S.the-type S′.the-plain 𝓤 H A) k _ k-is $ fjoin ! $
-      owned ! F.the-row (Is F.the-row) (LL.makes F.the-type F′.the-plain 𝓤 H A) (alone r) _ (alone-is r vs is) $ move ! (1 ∷ 0 ∷ []) $ done !
+      owned ! F.the-row (Is F.the-row) (LL.makes F.the-type F′.the-plain 𝓤 H A) (r .field) _ (field-is r vs is) $ move ! (1 ∷ 0 ∷ []) $ done !
 
   module _ (C : Calls 𝓤 H) (Λ : Loops 𝓤 H) (fm : FmC 𝓤 H (W .laws) C) (known : Triple 𝓤 (C #next) (Next 𝓤 H A at-mem run)) where
     walk : Is (ShrSlice (named 0) κ u8) s (v ∷ []) → Asked → ent 𝓤 (onEntry 𝓤 H A read-field.signature (κ, (κ′, tt)) (q, (q′, tt)) a vals) (WpFn 𝓤 H C Λ code.function passing Post)
@@ -156,15 +151,13 @@ module _ {M : Type 1} (𝓤 : URA M) (H : Heap 𝓤) (A : Atoms 𝓤) (W : Given
         move ! (21 ∷ 22 ∷ []) $ use2 W (raw (Next 𝓤 H A at-mem run .pre to) ⊛ ‵ Own) (goes h-is ok) $ split ! $
         calls-at ! fm (Next 𝓤 H A at-mem run) known to (and-then ! (load ! (from ! (here !)) (look ! 19 refl)) (and-then ! (load ! (from ! (here !)) (look ! 17 refl)) (and-then ! (load ! (from ! (here !)) (look ! 15 refl)) (and-then ! (load ! (from ! (here !)) (look ! 13 refl)) (and-then ! (load ! (from ! (here !)) (look ! 7 refl)) (no-more !)))))) (λ u.
         use1 W (later (some (λ (r : FieldRead). ((‵ (flft κ q) ⊛ ‵ ftrue) ⊛ ‵ (R.the-row .own r (u ∷ []))) ⊛ raw (ensured 𝓤 H A next.ended (next.clauses 𝓤 H A at-mem run) (κ, tt) x tt r)))) (id⊢ 𝓤 _) $ await ! tt $ pick ! (λ r.
-        split ! $ move ! (1 ∷ []) $ use1 W (raw (fact 𝓤 (Reads k (now s) stop at h r))) (said r) $ heard ! (Reads k (now s) stop at h r) (λ e. split ! $ move ! (1 ∷ []) $
+        split ! $ move ! (1 ∷ []) $ use1 W (raw (fact 𝓤 (Reads k (now s) stop at h (r .field) (r .tally)))) (said r) $ heard ! (Reads k (now s) stop at h (r .field) (r .tally)) (λ e. split ! $ move ! (1 ∷ []) $
         -- [what was read; t's token; what t owns; the tally's cell; what it owns; the open borrow; obs; auth; _7; …]
         peeks ! R.the-row (Is R.the-row) (shows 𝓤 H A R.the-row) r (u ∷ []) (λ is.
         land ! (from ! (here !)) (init ! 10 refl (LL.lawful R.the-type R′.the-laws 𝓤 H A W .typed r _ is .0)) $
         rewrite ! 10 (λ (w : Val). ‵ (fat fullShare R′.mir l₆ 0 w)) (ap only (LL.tells R.the-type R′.the-laws r _ is)) refl $
-        assigns ! (of-opd ! (load ! (from ! (fld ! refl (here !))) (look-in ! 10 (sub ! 5 refl (whole !))))) (from ! (hop ! (look ! 12 refl) (here !))) (store-raw ! 3 refl (LL.lawful T.the-type T′.the-laws 𝓤 H A W .typed (r .tally) _ (tally-is r _ is) .0)) $
-        assigns ! (agg ! (and-then ! (load ! (from ! (fld ! refl (here !))) (look-in ! 10 (sub ! 0 refl (whole !)))) (and-then ! (load ! (from ! (fld ! refl (here !))) (look-in ! 10 (sub ! 1 refl (whole !))))
-        (and-then ! (load ! (from ! (fld ! refl (here !))) (look-in ! 10 (sub ! 2 refl (whole !)))) (and-then ! (load ! (from ! (fld ! refl (here !))) (look-in ! 10 (sub ! 3 refl (whole !))))
-        (and-then ! (load ! (from ! (fld ! refl (here !))) (look-in ! 10 (sub ! 4 refl (whole !)))) (no-more !))))))) (from ! (here !)) (init ! 22 refl (LL.lawful F.the-type F′.the-laws 𝓤 H A W .typed (alone r) _ (alone-is r _ is) .0)) $
+        assigns ! (of-opd ! (load ! (from ! (fld ! refl (here !))) (look-in ! 10 (sub ! 1 refl (whole !))))) (from ! (hop ! (look ! 12 refl) (here !))) (store-raw ! 3 refl (LL.lawful T.the-type T′.the-laws 𝓤 H A W .typed (r .tally) _ (tally-is r _ is) .0)) $
+        assigns ! (of-opd ! (load ! (from ! (fld ! refl (here !))) (look-in ! 10 (sub ! 0 refl (whole !))))) (from ! (here !)) (init ! 22 refl (LL.lawful F.the-type F′.the-laws 𝓤 H A W .typed (r .field) _ (field-is r _ is) .0)) $
         -- the borrow is closed at the tally that was stored
         move ! (4 ∷ []) $ drop ! $ owned ! T.the-row (Is T.the-row) (LL.makes T.the-type T′.the-plain 𝓤 H A) (r .tally) _ (tally-is r _ is) $ move ! (4 ∷ 0 ∷ 5 ∷ 6 ∷ 7 ∷ []) $ closes ! tt T.the-row (r .tally) (LL.vals T.the-type T′.the-laws (r .tally)) b o $
         returns ! (look ! 20 refl) $ forget ! 6 refl $ forget ! 8 refl $ forget ! 10 refl $ forget ! 12 refl $ forget ! 14 refl $ forget ! 16 refl $ forget ! 18 refl $ forget ! 20 refl $

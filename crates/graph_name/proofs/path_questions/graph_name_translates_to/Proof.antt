@@ -20,7 +20,7 @@ returns c =
     let w = c .before .before .before .before .translates-to .ensures in
     let s = c .reply-out .ensures in
     let a = c .before .before .before .before .before .before .before .before .before .args in
-    let answer = askFull (a .buf .now) (a .other .now) (length (a .out .now)) in
+    let answer = askFull (a .buffer .now) (a .other .now) (length (a .out .now)) in
     (reply-number answer _ (w .0) _ (s .0), (w .1, reply-value answer _ (w .0) _ _ (s .1)))
 
 pub graph-name-translates-to-spec : {M : Type 1} → statement M

@@ -12,7 +12,7 @@ from-header-lines-requires c κs = search needs
 refusal-out-requires : tie.Need-refusal-out-requires
 refusal-out-requires c κs =
     let a = c .before .before .before .before .before .before .before .before .before .args in
-    rw (c .before .before .before .before .before .from-header-lines .ensures .0) (into-small (fromHeaderLines (a .text .now)) (a .buf .now) (header-small (a .text .now)))
+    rw (c .before .before .before .before .before .from-header-lines .ensures .0) (into-small (fromHeaderLines (a .text .now)) (a .buffer .now) (header-small (a .text .now)))
 
 same-length : tie.Need-same-length
 same-length c = search needs

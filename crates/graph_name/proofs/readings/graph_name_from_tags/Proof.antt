@@ -16,7 +16,7 @@ refusal-out-requires c κs =
     let n = flagged (a .has-name) (a .name .now) in
     let s = flagged (a .has-subgraph) (a .subgraph .now) in
     let t = flagged (a .has-translation) (a .translation .now) in
-    rw (c .before .before .before .before .before .from-tags .ensures .0) (into-small (fromTags n s t) (a .buf .now) (tags-small n s t))
+    rw (c .before .before .before .before .before .from-tags .ensures .0) (into-small (fromTags n s t) (a .buffer .now) (tags-small n s t))
 
 same-length : tie.Need-same-length
 same-length c = search needs

@@ -27,7 +27,7 @@ returns c =
     let w = c .before .before .before .before .before .before .before .before .before .before .before .before .before .set-tags .ensures in
     let o = c .tags-out .ensures in
     let a = c .before .before .before .before .before .before .before .before .before .before .before .before .before .before .before .before .before .before .before .before .before .args in
-    let g = tagsWritten (a .buf .now) (length (a .name .now)) (length (a .subgraph .now)) (length (a .translation .now)) in (
+    let g = tagsWritten (a .buffer .now) (length (a .name .now)) (length (a .subgraph .now)) (length (a .translation .now)) in (
       all-number g _ (w .answer) _ (o .0),
       (
         w .name-output,

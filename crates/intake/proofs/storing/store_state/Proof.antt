@@ -1,6 +1,8 @@
 -- As the tables stand, or with the own name put in (`Stored`).
 use mathlib.Core.Path.{ap, _∙_}
 use Rattle.model.specs.Layout.{encode}
+use Prim.Native.Nat.{_+_}
+use Rattle.tables.specs.Tables.{tables, Storable}
 use Rattle.intake.proofs.Stored.{stored-none, graph-none, name-room, stored-own, graph-own}
 use native.Mathlib.Omega.{arith}
 use borrow.Author.Needs.{needs}
@@ -9,6 +11,18 @@ use Rattle.intake.proofs.storing.store_state.Tie as tie
 
 abbrev start : tie.After-slice-known5 → tie.Start
 start k = k .before .before .before .before .before .before
+
+abbrev named : tie.After-put-name → tie.Start
+named p = start (p .before .before .before .before .before .before .before)
+
+-- the tables with the own name put in can be stored
+own-stored : (p : tie.After-put-name) → let l = p .put-name .last in let r = p .put-name .result in
+    Storable (tables (l .0) (l .1 .0) (l .1 .1 .0) (l .1 .1 .1 .0) (r .sizes)) (r .place + 1)
+own-stored p =
+    let l = p .put-name .last in
+    let s = named p in
+    let a = s .args in
+    stored-own (a .refs .now) (a .subs .now) (a .trans .now) (a .pool .now) (a .own .now) (a .state .sizes) (a .state .own) (s .pre .0) (p .before .before .before .before .before .before .if1 .left) (p .before .part .result .now) (p .before .part .ensures) (l .0) (l .1 .0) (l .1 .1 .0) (l .1 .1 .1 .0) (p .put-name .result .sizes) (p .put-name .result .place) (p .put-name .ensures)
 
 store-requires : tie.Need-store-requires
 store-requires c κs =
@@ -53,21 +67,10 @@ put-name-requires c κs =
     (s .pre .0 .held .good .kept, name-room (a .refs .now) (a .subs .now) (a .trans .now) (a .pool .now) (a .own .now) (a .state .sizes) (a .state .own) (s .pre .0) (e .if1 .left) (c .part .result .now) (c .part .ensures))
 
 add-store : tie.Need-add-store
-add-store c =
-    let p = c .before .before .before .before .before .before .before .before .before .before .before .before in
-    let l = p .put-name .last in
-    let s = start (p .before .before .before .before .before .before .before) in
-    let a = s .args in
-    let w = stored-own (a .refs .now) (a .subs .now) (a .trans .now) (a .pool .now) (a .own .now) (a .state .sizes) (a .state .own) (s .pre .0) (p .before .before .before .before .before .before .if1 .left) (p .before .part .result .now) (p .before .part .ensures) (l .0) (l .1 .0) (l .1 .1 .0) (l .1 .1 .1 .0) (p .put-name .result .sizes) (p .put-name .result .place) (p .put-name .ensures) in
-    omega (arith, w .own-within, w .count)
+add-store c = let w = own-stored (c .before .before .before .before .before .before .before .before .before .before .before .before) in omega (arith, w .own-within, w .count)
 
 store-requires-2 : tie.Need-store-requires-2
-store-requires-2 c κs =
-    let p = c .before .before .before .before .before .before .before .before .before .before .before .before .before in
-    let l = p .put-name .last in
-    let s = start (p .before .before .before .before .before .before .before) in
-    let a = s .args in
-    (stored-own (a .refs .now) (a .subs .now) (a .trans .now) (a .pool .now) (a .own .now) (a .state .sizes) (a .state .own) (s .pre .0) (p .before .before .before .before .before .before .if1 .left) (p .before .part .result .now) (p .before .part .ensures) (l .0) (l .1 .0) (l .1 .1 .0) (l .1 .1 .1 .0) (p .put-name .result .sizes) (p .put-name .result .place) (p .put-name .ensures), s .pre .1)
+store-requires-2 c κs = let p = c .before .before .before .before .before .before .before .before .before .before .before .before .before in (own-stored p, named p .pre .1)
 
 same-length-6 : tie.Need-same-length-6
 same-length-6 c = search needs
@@ -88,7 +91,7 @@ returns-2 : tie.Need-returns-2
 returns-2 c =
     let p = c .before .before .before .before .before .before .before .before .before .before .before .before .before .before .before .before in
     let l = p .put-name .last in
-    let s = start (p .before .before .before .before .before .before .before) in
+    let s = named p in
     let a = s .args in
     c .before .before .store2 .ensures ∙ ap encode (graph-own (a .refs .now) (a .subs .now) (a .trans .now) (a .pool .now) (a .own .now) (a .state .sizes) (a .state .own) (s .pre .0) (p .before .before .before .before .before .before .if1 .left) (p .before .part .result .now) (p .before .part .ensures) (l .0) (l .1 .0) (l .1 .1 .0) (l .1 .1 .1 .0) (p .put-name .result .sizes) (p .put-name .result .place) (p .put-name .ensures))
 

@@ -1,7 +1,7 @@
 -- By what the field says (`Progress`).
 use mathlib.Core.Path.{refl, subst}
 use Rattle.tables.specs.Tables.{tables}
-use Rattle.fields.specs.Contents.{Within}
+use Rattle.fields.specs.Contents.{PlacesIn}
 use Rattle.fields.specs.declared.field.Content.{Content}
 use Rattle.fields.specs.declared.field.Content.the-variants.{Relation}
 use Rattle.intake.proofs.Progress.{name-progress, fault-taken, nothing-taken, name-said, pair-said}
@@ -14,8 +14,8 @@ abbrev start : tie.After-content3 → tie.Start
 start k = k .before .before .before .before .before .before .before .before
 
 -- the places of a relation
-places : (k : tie.After-content3) → Within (start k .args .f .now) (Relation (k .content3 .given .0 .0) (k .content3 .given .0 .1 .0) (k .content3 .given .0 .1 .1 .0))
-places k = subst (λ (x : Content). Within (start k .args .f .now) x) (k .content3 .given .1) (start k .pre .1)
+places : (k : tie.After-content3) → PlacesIn (start k .args .f .now) (Relation (k .content3 .given .0 .0) (k .content3 .given .0 .1 .0) (k .content3 .given .0 .1 .1 .0))
+places k = subst (λ (x : Content). PlacesIn (start k .args .f .now) x) (k .content3 .given .1) (start k .pre .1)
 
 enum-known-content : tie.Need-enum-known-content
 enum-known-content c = search needs

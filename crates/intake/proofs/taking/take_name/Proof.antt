@@ -20,8 +20,8 @@ copy-requires c κs = search needs
 add-t7 : tie.Need-add-t7
 add-t7 c = search needs
 
-judged-state-requires : tie.Need-judged-state-requires
-judged-state-requires c κs = search needs
+take-state-requires : tie.Need-take-state-requires
+take-state-requires c κs = search needs
 
 same-length : tie.Need-same-length
 same-length c = search needs
@@ -30,7 +30,7 @@ returns-2 : tie.Need-returns-2
 returns-2 c =
     let k = c .before .before .before .before in
     let a = k .before .before .before .before .before .before .before .args in (
-      c .judged-state .ensures
+      c .take-state .ensures
           ∙ name-taken (namesIn (a .pool .now) (a .sizes .names) (a .refs .now)) (a .sizes) (a .own .now) (k .copy .last .0) (a .name .now) (k .copy .result)
           (k .copy .ensures .0) (k .copy .ensures .1) (k .before .before .if1 .left),
       λ h. k .copy .ensures .1,
@@ -38,4 +38,4 @@ returns-2 c =
 
 pub take-name-spec : {M : Type 1} → statement M
 take-name-spec =
-    tie.close (tie.spec returns copy-requires add-t7 judged-state-requires same-length returns-2)
+    tie.close (tie.spec returns copy-requires add-t7 take-state-requires same-length returns-2)

@@ -31,8 +31,8 @@ put-pair-requires c κs =
           (a .from .now) (a .to .now) (e .before .if1 .left) (e .if2 .left),
     )
 
-judged-state-requires : tie.Need-judged-state-requires
-judged-state-requires c κs =
+take-state-requires : tie.Need-take-state-requires
+take-state-requires c κs =
     let p = c .before .before .before .before .before .before .before .before .before .before in
     let l = p .put-pair .last .1 in
     let s = start (p .before .before .before .before .before) in
@@ -61,7 +61,7 @@ returns-3 c =
     let a = s .args in
     pair-progress (a .refs .now) (a .subs .now) (a .trans .now) (a .pool .now) (a .own .now) (a .state .sizes) (a .state .own) (s .pre)
     (a .kind) (a .from .now) (a .to .now) (l .0) (l .1 .0) (l .1 .1 .0) (l .1 .1 .1 .0) (p .put-pair .result) (p .put-pair .ensures)
-    (k .0) (k .1 .0) (k .1 .1 .0) (k .1 .1 .1 .0) (c .judged-state .result) (c .judged-state .ensures)
+    (k .0) (k .1 .0) (k .1 .1 .0) (k .1 .1 .1 .0) (c .take-state .result) (c .take-state .ensures)
 
 pub take-pair-spec : {M : Type 1} → statement M
 take-pair-spec =
@@ -70,7 +70,7 @@ take-pair-spec =
     returns
     returns-2
     put-pair-requires
-    judged-state-requires
+    take-state-requires
     same-length
     same-length-2
     same-length-3

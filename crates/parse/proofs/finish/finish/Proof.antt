@@ -1,8 +1,8 @@
 -- By how the reading ended (`Finished`).
 use mathlib.Core.Path.{subst}
 use Rattle.tables.specs.Tables.{tables}
-use Rattle.parse.specs.Endings.{ReadyAtEnd}
-use Rattle.parse.specs.declared.reading.Ended.{Ended}
+use Rattle.parse.specs.Endings.{FittingAtEnd}
+use Rattle.parse.specs.declared.ending.Ended.{Ended}
 use Rattle.parse.proofs.Finished.{done-ended, refused-ended}
 use borrow.Author.Needs.{needs}
 use Rattle.parse.proofs.finish.finish.Statement.{statement}
@@ -16,7 +16,7 @@ store-state-requires c κs =
     let k = c .before .before .before .before .before .before in
     let s = k .before .before .before .before .before .before .before .before in
     let a = s .args in
-    (subst (λ (x : Ended). ReadyAtEnd (tables (a .refs .now) (a .subs .now) (a .trans .now) (a .pool .now)) (a .own .now) x) (k .ended .given .1) (s .pre .0), s .pre .1)
+    (subst (λ (x : Ended). FittingAtEnd (tables (a .refs .now) (a .subs .now) (a .trans .now) (a .pool .now)) (a .own .now) x) (k .ended .given .1) (s .pre .0), s .pre .1)
 
 enum-known-ended-2 : tie.Need-enum-known-ended-2
 enum-known-ended-2 c = search needs
@@ -56,7 +56,7 @@ returns-2 c =
     let s = k .before .before .before .before .before .before .before .before in
     let a = s .args in
     let f = k .ended2 .given in
-    refused-ended (tables (a .refs .now) (a .subs .now) (a .trans .now) (a .pool .now)) (a .own .now) (a .ended) (a .buffer .now) _ (f .0 .0) (f .0 .1 .0) (f .0 .1 .1 .0) (f .0 .1 .1 .1 .0) (f .1) (s .pre .1) (t .clear .ensures)
+    refused-ended (tables (a .refs .now) (a .subs .now) (a .trans .now) (a .pool .now)) (a .own .now) (a .ended) (a .buffer .now) _ (f .0 .0) (f .1) (s .pre .1) (t .clear .ensures)
 
 pub finish-spec : {M : Type 1} → statement M
 finish-spec =

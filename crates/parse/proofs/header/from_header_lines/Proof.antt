@@ -1,9 +1,9 @@
 -- A buffer of a wrong size, or the reading and its end (`Finished`).
-use mathlib.Core.Path.{refl, _∙_}
+use mathlib.Core.Path.{_∙_}
 use Rattle.intake.specs.State.{Lengths}
 use Rattle.model.specs.Reading.{fromHeaderLines}
 use Rattle.model.specs.Outcome.{readInto}
-use Rattle.parse.proofs.Finished.{nothing-ready, header-read, finished, wrong-size}
+use Rattle.parse.proofs.Finished.{nothing-fitting, header-read, finished, wrong-size}
 use borrow.Author.Needs.{needs}
 use Rattle.parse.proofs.header.from_header_lines.Statement.{statement}
 use Rattle.parse.proofs.header.from_header_lines.Tie as tie
@@ -21,11 +21,14 @@ fresh b =
       own = b .own-buffer .ensures;
     }
 
+refuse-unplaced-requires : tie.Need-refuse-unplaced-requires
+refuse-unplaced-requires c κs = search needs
+
 returns : tie.Need-returns
 unfolding readInto
 returns c =
-    let a = c .before .before .before .args in
-    wrong-size (a .buffer .now) _ (fromHeaderLines (a .t .now)) (c .if1 .taken) refl
+    let a = c .before .before .before .before .args in
+    wrong-size (a .buffer .now) _ (fromHeaderLines (a .t .now)) (c .before .if1 .taken) (c .refuse-unplaced .ensures)
 
 name-table-requires : tie.Need-name-table-requires
 name-table-requires c κs = search needs
@@ -66,7 +69,7 @@ read-text-requires c κs =
     let p = b .before in
     let n = p .before .before .before in
     rw (c .begin .ensures)
-    (nothing-ready (n .name-table .result) (p .before .before .pair-table .result) (p .before .pair-table2 .result) (p .pool .result) (b .own-buffer .result) (fresh b))
+    (nothing-fitting (n .name-table .result) (p .before .before .pair-table .result) (p .before .pair-table2 .result) (p .pool .result) (b .own-buffer .result) (fresh b))
 
 slice-aggregate-finish : tie.Need-slice-aggregate-finish
 slice-aggregate-finish c = search needs
@@ -109,6 +112,7 @@ pub from-header-lines-spec : {M : Type 1} → statement M
 from-header-lines-spec =
     tie.close
     (tie.spec
+    refuse-unplaced-requires
     returns
     name-table-requires
     pair-table-requires

@@ -1,5 +1,5 @@
 -- The invariant: what is left decides, with the graph name so far (`Ongoing`). The measure is what is left of the text.
-use mathlib.Core.Path.{sym, subst, _∙_}
+use mathlib.Core.Path.{_≡_, sym, subst, _∙_}
 use mathlib.Core.Logic.{⊎-elim}
 use Prim.Native.Nat.{_+_, _-_}
 use lib.ListN.{length}
@@ -7,7 +7,7 @@ use borrow.Author.Tests.{ltb-true, ltb-false}
 use Rattle.model.specs.Bytes.{Bytes}
 use Rattle.tables.specs.Tables.{tables}
 use Rattle.fields.specs.Fields.{apply}
-use Rattle.fields.specs.Contents.{fieldOf, Within}
+use Rattle.fields.specs.Contents.{meaningOf, PlacesIn}
 use Rattle.fields.specs.Rest.{restOf, partOf}
 use Rattle.intake.specs.State.{graphNow, TakenAs}
 use Rattle.parse.specs.Endings.{firstStop}
@@ -28,23 +28,34 @@ abbrev μ-loop : tie.MeasureT-loop
 abbrev start : tie.At-loop Inv-loop μ-loop → tie.Start Inv-loop μ-loop
 start l = l .before .before .before .before .before .before .before .before
 
+abbrev read : tie.After-take-field Inv-loop μ-loop → tie.After-next Inv-loop μ-loop
+read t = t .before .before .before .before .before .before .before .before .before
+
 abbrev looped : tie.After-take-field Inv-loop μ-loop → tie.At-loop Inv-loop μ-loop
-looped t = t .before .before .before .before .before .before .before .before .before .before
+looped t = read t .before .before
 
 abbrev taken : tie.After-slice-known10 Inv-loop μ-loop → tie.After-take-field Inv-loop μ-loop
 taken c = c .before .before .before .before .before .before .before .before .before .before
 
+-- the tables and the own name's buffer are as long as they were at the start
+lengths-kept : (l : tie.At-loop Inv-loop μ-loop) → let m = l .loop in let a = start l .args in
+    (length (m .refs) ≡ length (a .refs .now)) × (length (m .subs) ≡ length (a .subs .now)) × (length (m .trans) ≡ length (a .trans .now)) × (length (m .pool) ≡ length (a .pool .now)) × (length (m .own) ≡ length (a .own .now))
+lengths-kept l =
+    let m = l .loop .inv .fitting .held .lengths in
+    let a = start l .pre .held .lengths in
+    (m .refs ∙ sym (a .refs), m .subs ∙ sym (a .subs), m .trans ∙ sym (a .trans), m .pool ∙ sym (a .pool), m .own ∙ sym (a .own))
+
 -- what was taken is what the field says in its part of the text
-as-part : (t : tie.After-take-field Inv-loop μ-loop) → let l = looped t .loop in let r = t .before .before .before .before .before .before .before .before .next .result in let m = t .take-field .last in
+as-part : (t : tie.After-take-field Inv-loop μ-loop) → let l = looped t .loop in let f = read t .next .result .field in let m = t .take-field .last in
     TakenAs (tables (m .0) (m .1 .0) (m .1 .1 .0) (m .1 .1 .1 .0)) (m .1 .1 .1 .1 .0) (t .take-field .result)
-    (apply (graphNow (tables (l .refs) (l .subs) (l .trans) (l .pool) (l .state .sizes)) (l .own) (l .state .own)) (fieldOf (partOf (start (looped t) .args .t .now) r) (r .content)))
+    (apply (graphNow (tables (l .refs) (l .subs) (l .trans) (l .pool) (l .state .sizes)) (l .own) (l .state .own)) (meaningOf (partOf (start (looped t) .args .t .now) f) (f .content)))
 as-part t =
     let l = looped t .loop in
-    let r = t .before .before .before .before .before .before .before .before .next .result in
+    let f = read t .next .result .field in
     let m = t .take-field .last in
     subst
     (λ (x : Bytes). TakenAs (tables (m .0) (m .1 .0) (m .1 .1 .0) (m .1 .1 .1 .0)) (m .1 .1 .1 .1 .0) (t .take-field .result)
-    (apply (graphNow (tables (l .refs) (l .subs) (l .trans) (l .pool) (l .state .sizes)) (l .own) (l .state .own)) (fieldOf x (r .content))))
+    (apply (graphNow (tables (l .refs) (l .subs) (l .trans) (l .pool) (l .state .sizes)) (l .own) (l .state .own)) (meaningOf x (f .content))))
     (t .before .part .ensures) (t .take-field .ensures)
 
 first-stop-requires : tie.Need-first-stop-requires Inv-loop μ-loop
@@ -58,7 +69,7 @@ loop-holds c =
 
 next-requires : tie.Need-next-requires Inv-loop μ-loop
 next-requires c κs = (
-  c .before .loop .inv .place,
+  c .before .loop .inv .position,
   λ h. ⊎-elim (λ w. absurd (omega (arith, w .taken, h))) (λ w. ltb-true _ _ (w .1 .taken)) (c .if1 .came),
 )
 
@@ -67,41 +78,31 @@ part-requires c κs = search needs
 
 take-field-requires : tie.Need-take-field-requires Inv-loop μ-loop
 take-field-requires c κs =
-    let k = c .before .before .before .before .before .before .before in (
-      k .before .before .loop .inv .ready,
-      subst (λ (x : Bytes). Within x (k .next .result .content)) (sym (c .part .ensures)) (k .next .ensures .places),
+    let k = c .before .before .before .before .before .before .before .before in (
+      k .before .before .loop .inv .fitting,
+      subst (λ (x : Bytes). PlacesIn x (k .next .result .field .content)) (sym (c .part .ensures)) (k .next .ensures .places),
     )
 
 enum-known-number : tie.Need-enum-known-number Inv-loop μ-loop
 enum-known-number c = search needs
 
-refusal-requires : tie.Need-refusal-requires Inv-loop μ-loop
-refusal-requires c κs = search needs
+refuse-requires : tie.Need-refuse-requires Inv-loop μ-loop
+refuse-requires c κs = search needs
 
 same-length : tie.Need-same-length Inv-loop μ-loop
-same-length c =
-    let t = taken (c .before .before .before .before) in
-    t .take-field .kept .0 ∙ looped t .loop .inv .ready .held .lengths .refs ∙ sym (start (looped t) .pre .held .lengths .refs)
+same-length c = let t = taken (c .before .before .before .before) in t .take-field .kept .0 ∙ lengths-kept (looped t) .0
 
 same-length-2 : tie.Need-same-length-2 Inv-loop μ-loop
-same-length-2 c =
-    let t = taken (c .before .before .before .before) in
-    t .take-field .kept .1 .0 ∙ looped t .loop .inv .ready .held .lengths .subs ∙ sym (start (looped t) .pre .held .lengths .subs)
+same-length-2 c = let t = taken (c .before .before .before .before) in t .take-field .kept .1 .0 ∙ lengths-kept (looped t) .1
 
 same-length-3 : tie.Need-same-length-3 Inv-loop μ-loop
-same-length-3 c =
-    let t = taken (c .before .before .before .before) in
-    t .take-field .kept .1 .1 .0 ∙ looped t .loop .inv .ready .held .lengths .trans ∙ sym (start (looped t) .pre .held .lengths .trans)
+same-length-3 c = let t = taken (c .before .before .before .before) in t .take-field .kept .1 .1 .0 ∙ lengths-kept (looped t) .2
 
 same-length-4 : tie.Need-same-length-4 Inv-loop μ-loop
-same-length-4 c =
-    let t = taken (c .before .before .before .before) in
-    t .take-field .kept .1 .1 .1 .0 ∙ looped t .loop .inv .ready .held .lengths .pool ∙ sym (start (looped t) .pre .held .lengths .pool)
+same-length-4 c = let t = taken (c .before .before .before .before) in t .take-field .kept .1 .1 .1 .0 ∙ lengths-kept (looped t) .3
 
 same-length-5 : tie.Need-same-length-5 Inv-loop μ-loop
-same-length-5 c =
-    let t = taken (c .before .before .before .before) in
-    t .take-field .kept .1 .1 .1 .1 .0 ∙ looped t .loop .inv .ready .held .lengths .own ∙ sym (start (looped t) .pre .held .lengths .own)
+same-length-5 c = let t = taken (c .before .before .before .before) in t .take-field .kept .1 .1 .1 .1 .0 ∙ lengths-kept (looped t) .4
 
 returns : tie.Need-returns Inv-loop μ-loop
 returns c =
@@ -109,9 +110,9 @@ returns c =
     let l = looped t .loop in
     let a = start (looped t) .args in
     let m = t .take-field .last in
-    let k = t .before .before .before .before .before .before .before .before in
-    reading-refused (a .source) (a .t .now) (l .refs) (l .subs) (l .trans) (l .pool) (l .own) (l .state) _ (l .stop) (l .at) (l .tally) (l .inv) (k .next .result) (k .next .ensures) (m .0) (m .1 .0) (m .1 .1 .0) (m .1 .1 .1 .0) (m .1 .1 .1 .1 .0) (t .take-field .result) (as-part t)
-    (c .before .before .number .given .0 .0) (c .before .before .number .given .1) (c .refusal .result) (c .refusal .ensures)
+    let r = read t .next in
+    reading-refused (a .source) (a .t .now) (l .refs) (l .subs) (l .trans) (l .pool) (l .own) (l .state) _ (l .stop) (l .at) (l .tally) (l .inv) (r .result .field) (r .result .tally) (r .ensures) (m .0) (m .1 .0) (m .1 .1 .0) (m .1 .1 .1 .0) (m .1 .1 .1 .1 .0) (t .take-field .result) (as-part t)
+    (c .before .before .number .given .0 .0) (c .before .before .number .given .1) (c .refuse .result) (c .refuse .ensures)
 
 enum-known-s : tie.Need-enum-known-s Inv-loop μ-loop
 enum-known-s c = search needs
@@ -119,8 +120,8 @@ enum-known-s c = search needs
 loop-less : tie.Need-loop-less Inv-loop μ-loop
 loop-less c =
     let t = taken (c .before .before .before) in
-    let n = t .before .before .before .before .before .before .before .before .next .ensures in
-    omega (arith, n .onward, n .place .before, n .place .within)
+    let n = read t .next .ensures in
+    omega (arith, n .onward, n .position .before, n .position .within)
 
 loop-again : tie.Need-loop-again Inv-loop μ-loop
 loop-again c =
@@ -128,34 +129,24 @@ loop-again c =
     let l = looped t .loop in
     let a = start (looped t) .args in
     let m = t .take-field .last in
-    let k = t .before .before .before .before .before .before .before .before in
-    reading-goes-on (a .source) (a .t .now) (l .refs) (l .subs) (l .trans) (l .pool) (l .own) (l .state) _ (l .stop) (l .at) (l .tally) (l .inv) (k .next .result) (k .next .ensures) (m .0) (m .1 .0) (m .1 .1 .0) (m .1 .1 .1 .0) (m .1 .1 .1 .1 .0) (t .take-field .result) (as-part t)
+    let r = read t .next in
+    reading-goes-on (a .source) (a .t .now) (l .refs) (l .subs) (l .trans) (l .pool) (l .own) (l .state) _ (l .stop) (l .at) (l .tally) (l .inv) (r .result .field) (r .result .tally) (r .ensures) (m .0) (m .1 .0) (m .1 .1 .0) (m .1 .1 .1 .0) (m .1 .1 .1 .1 .0) (t .take-field .result) (as-part t)
     (c .before .s .given .0 .0) (c .before .s .given .1)
 
 same-length-6 : tie.Need-same-length-6 Inv-loop μ-loop
-same-length-6 c =
-    let l = c .before .before in
-    l .loop .inv .ready .held .lengths .refs ∙ sym (start l .pre .held .lengths .refs)
+same-length-6 c = lengths-kept (c .before .before) .0
 
 same-length-7 : tie.Need-same-length-7 Inv-loop μ-loop
-same-length-7 c =
-    let l = c .before .before in
-    l .loop .inv .ready .held .lengths .subs ∙ sym (start l .pre .held .lengths .subs)
+same-length-7 c = lengths-kept (c .before .before) .1
 
 same-length-8 : tie.Need-same-length-8 Inv-loop μ-loop
-same-length-8 c =
-    let l = c .before .before in
-    l .loop .inv .ready .held .lengths .trans ∙ sym (start l .pre .held .lengths .trans)
+same-length-8 c = lengths-kept (c .before .before) .2
 
 same-length-9 : tie.Need-same-length-9 Inv-loop μ-loop
-same-length-9 c =
-    let l = c .before .before in
-    l .loop .inv .ready .held .lengths .pool ∙ sym (start l .pre .held .lengths .pool)
+same-length-9 c = lengths-kept (c .before .before) .3
 
 same-length-10 : tie.Need-same-length-10 Inv-loop μ-loop
-same-length-10 c =
-    let l = c .before .before in
-    l .loop .inv .ready .held .lengths .own ∙ sym (start l .pre .held .lengths .own)
+same-length-10 c = lengths-kept (c .before .before) .4
 
 returns-2 : tie.Need-returns-2 Inv-loop μ-loop
 returns-2 c =
@@ -175,7 +166,7 @@ read-text-spec =
     part-requires
     take-field-requires
     enum-known-number
-    refusal-requires
+    refuse-requires
     same-length
     same-length-2
     same-length-3

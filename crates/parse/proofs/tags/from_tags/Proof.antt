@@ -1,5 +1,4 @@
 -- A buffer of a wrong size, or the reading and its end (`Finished`).
-use mathlib.Core.Path.{refl}
 use Rattle.model.specs.Reading.{fromTags}
 use Rattle.model.specs.Outcome.{readTagsInto}
 use Rattle.model.specs.Values.{given}
@@ -8,11 +7,14 @@ use borrow.Author.Needs.{needs}
 use Rattle.parse.proofs.tags.from_tags.Statement.{statement}
 use Rattle.parse.proofs.tags.from_tags.Tie as tie
 
+refuse-unplaced-requires : tie.Need-refuse-unplaced-requires
+refuse-unplaced-requires c κs = search needs
+
 returns : tie.Need-returns
 unfolding readTagsInto
 returns c =
-    let a = c .before .before .before .before .before .args in
-    wrong-size (a .buffer .now) _ (fromTags (given (a .has-name) (a .name .now)) (given (a .has-subgraph) (a .subgraph .now)) (given (a .has-translation) (a .translation .now))) (c .if1 .taken) refl
+    let a = c .before .before .before .before .before .before .args in
+    wrong-size (a .buffer .now) _ (fromTags (given (a .has-name) (a .name .now)) (given (a .has-subgraph) (a .subgraph .now)) (given (a .has-translation) (a .translation .now))) (c .before .if1 .taken) (c .refuse-unplaced .ensures)
 
 name-table-requires : tie.Need-name-table-requires
 name-table-requires c κs = search needs
@@ -81,6 +83,7 @@ pub from-tags-spec : {M : Type 1} → statement M
 from-tags-spec =
     tie.close
     (tie.spec
+    refuse-unplaced-requires
     returns
     name-table-requires
     pair-table-requires

@@ -11,13 +11,16 @@ returns : tie.Need-returns
 returns c =
     let s = c .before .before .before .before .before .before .before in
     let a = s .args in
-    name-absent (tables (a .refs .now) (a .subs .now) (a .trans .now) (a .pool .now)) (a .own .now) (a .there) (not-true (a .there) (c .if1 .taken)) (a .name .now) (a .begun) (s .pre)
+    name-absent (tables (a .refs .now) (a .subs .now) (a .trans .now) (a .pool .now)) (a .own .now) (a .has-name) (not-true (a .has-name) (c .if1 .taken)) (a .name .now) (a .begun) (s .pre)
 
 take-field-requires : tie.Need-take-field-requires
 take-field-requires c κs = (c .before .before .before .before .before .before .before .before .before .before .before .before .pre, omega arith)
 
 enum-known-number : tie.Need-enum-known-number
 enum-known-number c = search needs
+
+refuse-unplaced-requires : tie.Need-refuse-unplaced-requires
+refuse-unplaced-requires c κs = search needs
 
 enum-known-state : tie.Need-enum-known-state
 enum-known-state c = search needs
@@ -39,12 +42,13 @@ same-length-5 c = search needs
 
 returns-2 : tie.Need-returns-2
 returns-2 c =
-    let t = c .before .before .before .before .before .before .before .before .before .before .before .before .before in
+    let k = c .before .before in
+    let t = k .before .before .before .before .before .before .before .before .before .before .before .before in
     let m = t .take-field .last in
     let e = t .before .before .before .before .before .before in
     let a = e .before .before .before .before .before .before .before .args in
-    name-wrong (tables (m .0) (m .1 .0) (m .1 .1 .0) (m .1 .1 .1 .0)) (m .1 .1 .1 .1 .0) (a .there) (not-false (a .there) (e .if1 .left)) (a .name .now) _
-    (t .take-field .result) (t .take-field .ensures) (c .before .number .given .0 .0) (c .before .number .given .1)
+    name-wrong (tables (m .0) (m .1 .0) (m .1 .1 .0) (m .1 .1 .1 .0)) (m .1 .1 .1 .1 .0) (a .has-name) (not-false (a .has-name) (e .if1 .left)) (a .name .now) _
+    (t .take-field .result) (t .take-field .ensures) (k .number .given .0 .0) (k .number .given .1) (c .refuse-unplaced .result) (c .refuse-unplaced .ensures)
 
 same-length-6 : tie.Need-same-length-6
 same-length-6 c = search needs
@@ -67,7 +71,7 @@ returns-3 c =
     let m = t .take-field .last in
     let e = t .before .before .before .before .before .before in
     let a = e .before .before .before .before .before .before .before .args in
-    name-took (tables (m .0) (m .1 .0) (m .1 .1 .0) (m .1 .1 .1 .0)) (m .1 .1 .1 .1 .0) (a .there) (not-false (a .there) (e .if1 .left)) (a .name .now) _
+    name-took (tables (m .0) (m .1 .0) (m .1 .1 .0) (m .1 .1 .1 .0)) (m .1 .1 .1 .1 .0) (a .has-name) (not-false (a .has-name) (e .if1 .left)) (a .name .now) _
     (t .take-field .result) (t .take-field .ensures) (c .before .state .given .0 .0) (c .before .state .given .1)
 
 pub read-name-spec : {M : Type 1} → statement M
@@ -77,6 +81,7 @@ read-name-spec =
     returns
     take-field-requires
     enum-known-number
+    refuse-unplaced-requires
     enum-known-state
     same-length
     same-length-2

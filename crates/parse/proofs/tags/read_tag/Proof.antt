@@ -2,8 +2,8 @@
 use mathlib.Core.Path.{subst}
 use borrow.Author.Tests.{not-true, not-false}
 use Rattle.tables.specs.Tables.{tables}
-use Rattle.parse.specs.Endings.{ReadyAtEnd}
-use Rattle.parse.specs.declared.reading.Ended.{Ended}
+use Rattle.parse.specs.Endings.{FittingAtEnd}
+use Rattle.parse.specs.declared.ending.Ended.{Ended}
 use Rattle.parse.proofs.TagValues.{tag-absent, tag-refused, tag-read}
 use borrow.Author.Needs.{needs}
 use Rattle.parse.proofs.tags.read_tag.Statement.{statement}
@@ -13,7 +13,7 @@ returns : tie.Need-returns
 returns c =
     let s = c .before .before .before .before .before .before .before in
     let a = s .args in
-    tag-absent (tables (a .refs .now) (a .subs .now) (a .trans .now) (a .pool .now)) (a .own .now) (a .kind) (a .there) (not-true (a .there) (c .if1 .taken)) (a .value .now) (a .ended) (s .pre)
+    tag-absent (tables (a .refs .now) (a .subs .now) (a .trans .now) (a .pool .now)) (a .own .now) (a .kind) (a .has-value) (not-true (a .has-value) (c .if1 .taken)) (a .value .now) (a .ended) (s .pre)
 
 enum-known-ended : tie.Need-enum-known-ended
 enum-known-ended c = search needs
@@ -23,7 +23,7 @@ read-text-requires c κs =
     let k = c .before .before .before .before .before .before in
     let s = k .before .before .before .before .before .before .before .before .before in
     let a = s .args in
-    subst (λ (x : Ended). ReadyAtEnd (tables (a .refs .now) (a .subs .now) (a .trans .now) (a .pool .now)) (a .own .now) x) (k .ended .given .1) (s .pre)
+    subst (λ (x : Ended). FittingAtEnd (tables (a .refs .now) (a .subs .now) (a .trans .now) (a .pool .now)) (a .own .now) x) (k .ended .given .1) (s .pre)
 
 enum-known-ended-2 : tie.Need-enum-known-ended-2
 enum-known-ended-2 c = search needs
@@ -51,14 +51,14 @@ returns-2 c =
     let e = k .before .before in
     let a = e .before .before .before .before .before .before .before .args in
     tag-read (tables (a .refs .now) (a .subs .now) (a .trans .now) (a .pool .now)) (tables (m .0) (m .1 .0) (m .1 .1 .0) (m .1 .1 .1 .0)) (a .own .now) (m .1 .1 .1 .1 .0)
-    (a .kind) (a .there) (not-false (a .there) (e .if1 .left)) (a .value .now) (a .ended) (k .ended .given .0 .0) (k .ended .given .1) (t .read-text .result) (t .read-text .ensures)
+    (a .kind) (a .has-value) (not-false (a .has-value) (e .if1 .left)) (a .value .now) (a .ended) (k .ended .given .0 .0) (k .ended .given .1) (t .read-text .result) (t .read-text .ensures)
 
 returns-3 : tie.Need-returns-3
 returns-3 c =
     let k = c .before in
     let a = k .before .before .before .before .before .before .before .before .before .args in
     let f = k .ended2 .given in
-    tag-refused (tables (a .refs .now) (a .subs .now) (a .trans .now) (a .pool .now)) _ (a .own .now) _ _ (a .ended) (f .0 .0) (f .0 .1 .0) (f .0 .1 .1 .0) (f .0 .1 .1 .1 .0) (f .1)
+    tag-refused (tables (a .refs .now) (a .subs .now) (a .trans .now) (a .pool .now)) _ (a .own .now) _ _ (a .ended) (f .0 .0) (f .1)
 
 pub read-tag-spec : {M : Type 1} → statement M
 read-tag-spec =

@@ -2,11 +2,21 @@
 use mathlib.Core.Path.{_∙_}
 use Rattle.tables.specs.Tables.{tables}
 use Rattle.model.specs.Values.{given}
-use Rattle.parse.proofs.Finished.{nothing-ready, nothing-shown}
+use Rattle.parse.proofs.Finished.{nothing-fitting, nothing-shown}
 use Rattle.parse.proofs.TagValues.{tags-ended}
 use borrow.Author.Needs.{needs}
 use Rattle.parse.proofs.tags.read_tags.Statement.{statement}
 use Rattle.parse.proofs.tags.read_tags.Tie as tie
+
+-- after the third tag, the second and the first
+abbrev last : tie.After-slice-known20 → tie.After-read-tag2
+last c = c .before .before .before .before .before .before .before .before .before .before
+
+abbrev second : tie.After-read-tag2 → tie.After-read-tag
+second l = l .before .before .before .before .before .before .before .before .before .before .before .before .before .before .before .before
+
+abbrev first : tie.After-read-tag → tie.After-read-name
+first f = f .before .before .before .before .before .before .before .before .before .before .before .before .before .before .before .before
 
 begin-requires : tie.Need-begin-requires
 begin-requires c κs = search needs
@@ -15,7 +25,7 @@ read-name-requires : tie.Need-read-name-requires
 read-name-requires c κs =
     let s = c .before .before .before .before .before .before .before .before .before .before .before .before .before .before in
     let a = s .args in
-    rw (c .begin .ensures) (nothing-ready (a .refs .now) (a .subs .now) (a .trans .now) (a .pool .now) (a .own .now) (s .pre))
+    rw (c .begin .ensures) (nothing-fitting (a .refs .now) (a .subs .now) (a .trans .now) (a .pool .now) (a .own .now) (s .pre))
 
 read-tag-requires : tie.Need-read-tag-requires
 read-tag-requires c κs = search needs
@@ -24,40 +34,25 @@ read-tag-requires-2 : tie.Need-read-tag-requires-2
 read-tag-requires-2 c κs = search needs
 
 same-length : tie.Need-same-length
-same-length c =
-    let l = c .before .before .before .before .before .before .before .before .before .before in
-    let f = l .before .before .before .before .before .before .before .before .before .before .before .before .before .before .before .before in
-    l .read-tag2 .kept .1 .1 .1 .0 ∙ f .read-tag .kept .1 .1 .1 .0 ∙ f .before .before .before .before .before .before .before .before .before .before .before .before .before .before .before .before .read-name .kept .1 .1 .0
+same-length c = let l = last c in l .read-tag2 .kept .1 .1 .1 .0 ∙ second l .read-tag .kept .1 .1 .1 .0 ∙ first (second l) .read-name .kept .1 .1 .0
 
 same-length-2 : tie.Need-same-length-2
-same-length-2 c =
-    let l = c .before .before .before .before .before .before .before .before .before .before in
-    let f = l .before .before .before .before .before .before .before .before .before .before .before .before .before .before .before .before in
-    l .read-tag2 .kept .1 .1 .1 .1 .0 ∙ f .read-tag .kept .1 .1 .1 .1 .0 ∙ f .before .before .before .before .before .before .before .before .before .before .before .before .before .before .before .before .read-name .kept .1 .1 .1 .0
+same-length-2 c = let l = last c in l .read-tag2 .kept .1 .1 .1 .1 .0 ∙ second l .read-tag .kept .1 .1 .1 .1 .0 ∙ first (second l) .read-name .kept .1 .1 .1 .0
 
 same-length-3 : tie.Need-same-length-3
-same-length-3 c =
-    let l = c .before .before .before .before .before .before .before .before .before .before in
-    let f = l .before .before .before .before .before .before .before .before .before .before .before .before .before .before .before .before in
-    l .read-tag2 .kept .1 .1 .1 .1 .1 .0 ∙ f .read-tag .kept .1 .1 .1 .1 .1 .0 ∙ f .before .before .before .before .before .before .before .before .before .before .before .before .before .before .before .before .read-name .kept .1 .1 .1 .1 .0
+same-length-3 c = let l = last c in l .read-tag2 .kept .1 .1 .1 .1 .1 .0 ∙ second l .read-tag .kept .1 .1 .1 .1 .1 .0 ∙ first (second l) .read-name .kept .1 .1 .1 .1 .0
 
 same-length-4 : tie.Need-same-length-4
-same-length-4 c =
-    let l = c .before .before .before .before .before .before .before .before .before .before in
-    let f = l .before .before .before .before .before .before .before .before .before .before .before .before .before .before .before .before in
-    l .read-tag2 .kept .1 .1 .1 .1 .1 .1 .0 ∙ f .read-tag .kept .1 .1 .1 .1 .1 .1 .0 ∙ f .before .before .before .before .before .before .before .before .before .before .before .before .before .before .before .before .read-name .kept .1 .1 .1 .1 .1 .0
+same-length-4 c = let l = last c in l .read-tag2 .kept .1 .1 .1 .1 .1 .1 .0 ∙ second l .read-tag .kept .1 .1 .1 .1 .1 .1 .0 ∙ first (second l) .read-name .kept .1 .1 .1 .1 .1 .0
 
 same-length-5 : tie.Need-same-length-5
-same-length-5 c =
-    let l = c .before .before .before .before .before .before .before .before .before .before in
-    let f = l .before .before .before .before .before .before .before .before .before .before .before .before .before .before .before .before in
-    l .read-tag2 .kept .1 .1 .1 .1 .1 .1 .1 .0 ∙ f .read-tag .kept .1 .1 .1 .1 .1 .1 .1 .0 ∙ f .before .before .before .before .before .before .before .before .before .before .before .before .before .before .before .before .read-name .kept .1 .1 .1 .1 .1 .1 .0
+same-length-5 c = let l = last c in l .read-tag2 .kept .1 .1 .1 .1 .1 .1 .1 .0 ∙ second l .read-tag .kept .1 .1 .1 .1 .1 .1 .1 .0 ∙ first (second l) .read-name .kept .1 .1 .1 .1 .1 .1 .0
 
 returns : tie.Need-returns
 returns c =
-    let l = c .before .before .before .before .before .before .before .before .before .before in
-    let f = l .before .before .before .before .before .before .before .before .before .before .before .before .before .before .before .before in
-    let n = f .before .before .before .before .before .before .before .before .before .before .before .before .before .before .before .before in
+    let l = last c in
+    let f = second l in
+    let n = first f in
     let s = n .before .before .before .before .before .before .before .before .before .before .before .before .before .before .before in
     let a = s .args in
     let m = l .read-tag2 .last .1 .1 .1 in

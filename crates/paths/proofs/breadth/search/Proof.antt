@@ -6,7 +6,7 @@ use denote.Ref.{now}
 use Rattle.paths.specs.Tables.{Graph, edges, graph, nexts, Made}
 use Rattle.paths.specs.Queue.{Queue, queued, visitAll, Room, Ready}
 use Rattle.paths.proofs.State.{nodeAt}
-use Rattle.paths.proofs.Turn.{Searching, searching-start, ready, ready-half, size-half, searching-turn, told-found, told-none}
+use Rattle.paths.proofs.Turn.{Searching, searching-start, ready, ready-half, size-half, searching-turn, right-found, right-none}
 use native.Mathlib.Omega.{arith}
 use Rattle.paths.proofs.breadth.search.Statement.{statement}
 use Rattle.paths.proofs.breadth.search.Tie as tie
@@ -115,7 +115,7 @@ same-length-4 c = let l = c .before .before .before in l .loop .inv .size-is ∙
 returns : tie.Need-returns Inv-loop μ-loop
 returns c =
     let l = c .before .before .before in
-    rw (size-of l) at (told-found _ _ _ _ _ _ (l .loop .inv) (c .before .before .loop-test .taken) (c .if1 .taken))
+    rw (size-of l) at (right-found _ _ _ _ _ _ (l .loop .inv) (c .before .before .loop-test .taken) (c .if1 .taken))
 
 expand-requires : tie.Need-expand-requires Inv-loop μ-loop
 expand-requires c κs =
@@ -158,7 +158,7 @@ same-length-8 c = let l = c .before in l .loop .inv .size-is ∙ size-of l
 returns-2 : tie.Need-returns-2 Inv-loop μ-loop
 returns-2 c =
     let l = c .before in
-    rw (size-of l) at (told-none _ _ _ _ _ _ (l .loop .inv) (c .loop-test .left) (rw (size-of l) (start (cleared l) .pre .to)))
+    rw (size-of l) at (right-none _ _ _ _ _ _ (l .loop .inv) (c .loop-test .left) (rw (size-of l) (start (cleared l) .pre .to)))
 
 pub search-spec : {M : Type 1} → statement M
 search-spec =

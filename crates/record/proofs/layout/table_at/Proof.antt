@@ -10,32 +10,26 @@ head-at-requires c κs = search needs
 enum-told : tie.Need-enum-told
 enum-told c = search needs
 
+entry-at-requires : tie.Need-entry-at-requires
+entry-at-requires c κs = search needs
+
+enum-told-2 : tie.Need-enum-told-2
+enum-told-2 c = search needs
+
+entry-at-requires-2 : tie.Need-entry-at-requires-2
+entry-at-requires-2 c κs = search needs
+
 mul-result : tie.Need-mul-result
 mul-result c = search needs
 
 add-result : tie.Need-add-result
 add-result c = search needs
 
-enum-told-2 : tie.Need-enum-told-2
-enum-told-2 c = search needs
-
-mul-result-2 : tie.Need-mul-result-2
-mul-result-2 c = search needs
-
-add-result-2 : tie.Need-add-result-2
-add-result-2 c = search needs
-
-mul-result-3 : tie.Need-mul-result-3
-mul-result-3 c = search needs
-
-add-result-3 : tie.Need-add-result-3
-add-result-3 c = search needs
-
 returns : tie.Need-returns
-returns c = let h = c .before .before .before .head-at .ensures in rw (c .before .enum-told .given .1) (omega (arith, h .names))
+returns c = let h = c .before .before .before .head-at .ensures in rw (c .before .enum-told .given .1) (omega (arith, h .names, c .entry-at .ensures))
 
 returns-2 : tie.Need-returns-2
-returns-2 c = let h = c .before .before .before .before .head-at .ensures in rw (c .before .before .enum-told2 .given .1) (omega (arith, h .names, h .subgraph))
+returns-2 c = let h = c .before .before .before .before .head-at .ensures in rw (c .before .before .enum-told2 .given .1) (omega (arith, h .names, h .subgraph, c .before .entry-at2 .ensures))
 
 pub table-at-spec : {M : Type 1} → statement M
 table-at-spec =
@@ -43,12 +37,10 @@ table-at-spec =
     (tie.spec
     head-at-requires
     enum-told
+    entry-at-requires
+    enum-told-2
+    entry-at-requires-2
     mul-result
     add-result
-    enum-told-2
-    mul-result-2
-    add-result-2
-    mul-result-3
-    add-result-3
     returns
     returns-2)

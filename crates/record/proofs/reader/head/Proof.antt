@@ -24,7 +24,6 @@ use denote.RattleType.{RattleType, owns}
 use denote.Laws.{Is}
 use denote.Plain.{uint-makes}
 use denote.Builtin.{usize}
-use denote.Ref.{now}
 use denote.Signature.{namedLft}
 use denote.Steps.{owned, nothing}
 use denote.Struct.Laws as LL

@@ -1,7 +1,7 @@
 -- `reader::part` meets its contract: a walk of its MIR, by hand. The reader is taken apart, and `part_of` is called on the slice, three of
 -- the counts and the place. A reader is Copy: what it owns is had twice, once for the call and once whole for the exit.
 use mathlib.Core.Path.{_≡_, refl}
-use Prim.Native.Nat.{ℕ, _<_, _^_}
+use Prim.Native.Nat.{ℕ, _+_, _≤_, _<_, _^_}
 use mathlib.Core.List.{[], _∷_}
 use lib.Dec.{T as Holds}
 use lib.ListN.{length}
@@ -41,6 +41,7 @@ use denote.Triple.Table.{entered, cited}
 use denote.Triple.Walked.{says, needs, Stays, stay-none, walkOf, goes-none, Walks, ends-at, walked, walk-meets}
 use denote.Exit.{yes}
 use denote.Triple.Clauses.{ensured, lasts}
+use Rattle.model.specs.Layout.{entryLength, entryAt}
 use Rattle.record.specs.Reader.{Opened, IsPart}
 use Rattle.record.specs.declared.layout.Part.{Part}
 use Rattle.record.specs.declared.reader.Reader.{Reader}
@@ -105,11 +106,11 @@ module _ {M : Type 1} (𝓤 : URA M) (H : Heap 𝓤) (A : Atoms 𝓤) (W : Given
   abbrev to : PartOf 𝓤 H A mem run .Ghost
   to = (((κ, tt), (q, tt), tt, x, passed), tt)
 
-  asked : Opened d × (i < 8190) → ent 𝓤 (onEntry 𝓤 H A of.signature (κ, tt) (q, tt) x passed) (PartOf 𝓤 H A mem run .pre to)
-  asked ok = qed W ((‵ (flft κ q) ⊛ ‵ ftrue) ∷ ‵ (owns (ShrSlice (named 0) κ u8 ∷ usize ∷ usize ∷ usize ∷ usize ∷ []) x passed) ∷ []) ∵ says ! (ok .0 .long, ok .0 .names, ok .0 .subgraph, ok .0 .translation, ok .1) $ frame ! $ done !
+  asked : Opened d × (entryAt i + entryLength ≤ length (now (d .bytes))) → ent 𝓤 (onEntry 𝓤 H A of.signature (κ, tt) (q, tt) x passed) (PartOf 𝓤 H A mem run .pre to)
+  asked ok = qed W ((‵ (flft κ q) ⊛ ‵ ftrue) ∷ ‵ (owns (ShrSlice (named 0) κ u8 ∷ usize ∷ usize ∷ usize ∷ usize ∷ []) x passed) ∷ []) ∵ says ! (ok .0 .names, ok .0 .subgraph, ok .0 .translation, ok .1) $ frame ! $ done !
 
   -- what the struct owns gives what the callee asks, and is kept
-  apart : (d .names < 2 ^ 64) × (d .subgraph < 2 ^ 64) × (d .translation < 2 ^ 64) → Opened d × (i < 8190) → ent 𝓤 (onEntry 𝓤 H A part.signature (κ, tt) (q, tt) (d, (i, tt)) vals) (sep 𝓤 (PartOf 𝓤 H A mem run .pre to) (sem 𝓤 H A Own))
+  apart : (d .names < 2 ^ 64) × (d .subgraph < 2 ^ 64) × (d .translation < 2 ^ 64) → Opened d × (entryAt i + entryLength ≤ length (now (d .bytes))) → ent 𝓤 (onEntry 𝓤 H A part.signature (κ, tt) (q, tt) (d, (i, tt)) vals) (sep 𝓤 (PartOf 𝓤 H A mem run .pre to) (sem 𝓤 H A Own))
   apart fits ok =
       qed W ((‵ (flft κ q) ⊛ ‵ ftrue) ∷ ‵ (owns (B (κ, tt) ∷ usize ∷ []) (d, (i, tt)) vals) ∷ []) ∵
       move ! (1 ∷ []) $ fsplit ! $ move ! (1 ∷ []) $ drop ! $ use1 W (‵ Own ⊛ ‵ Own) (LL.copy D (T′.the-copy (namedLft 1 0 tt (κ, tt))) 𝓤 H A W .twice d (mach ∷ [])) $ split ! $
@@ -130,7 +131,7 @@ module _ {M : Type 1} (𝓤 : URA M) (H : Heap 𝓤) (A : Atoms 𝓤) (W : Given
       move ! (1 ∷ []) $ frame ! $ nothing ! $ owned ! usize (Is usize) (uint-makes 𝓤 H A W w64) i _ (refl, i-fits) $ fjoin ! $ move ! (2 ∷ 0 ∷ []) $ fjoin ! $ frame ! $ done !
 
   module _ (C : Calls 𝓤 H) (Λ : Loops 𝓤 H) (fm : FmC 𝓤 H (W .laws) C) (known : Triple 𝓤 (C #part-of) (PartOf 𝓤 H A mem run)) where
-    walk : Holds (hasTy (T′.mir (named 0)) mach) × WT mach → Opened d × (i < 8190) → ent 𝓤 (onEntry 𝓤 H A part.signature (κ, tt) (q, tt) (d, (i, tt)) vals) (WpFn 𝓤 H C Λ code.function (mach ∷ vint w64 i ∷ []) Post)
+    walk : Holds (hasTy (T′.mir (named 0)) mach) × WT mach → Opened d × (entryAt i + entryLength ≤ length (now (d .bytes))) → ent 𝓤 (onEntry 𝓤 H A part.signature (κ, tt) (q, tt) (d, (i, tt)) vals) (WpFn 𝓤 H C Λ code.function (mach ∷ vint w64 i ∷ []) Post)
     walk wt ok =
         qed W (raw (onEntry 𝓤 H A part.signature (κ, tt) (q, tt) (d, (i, tt)) vals) ∷ []) ∵ enter ! C Λ code.function (mach ∷ vint w64 i ∷ []) _ $
         alloc1 ! (λ l₀. alloc1 ! (λ l₁. alloc1 ! (λ l₂. alloc1 ! (λ l₃. alloc1 ! (λ l₄. alloc1 ! (λ l₅. alloc1 ! (λ l₆. alloc0 ! $ params1 ! $ pass1 ! (init ! 10 refl wt) $ pass1 ! (init ! 8 refl (tt, record { fits = i-fits })) $ pass0 ! $

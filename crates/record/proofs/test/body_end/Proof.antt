@@ -8,9 +8,10 @@ use native.Mathlib.Omega.{arith}
 use borrow.Author.Needs.{needs}
 use Rattle.record.proofs.test.body_end.Statement.{statement}
 use Rattle.record.proofs.test.body_end.Tie as tie
+use Rattle.model.specs.Layout.{countsLength}
 
 abbrev Inv-loop : tie.InvT-loop
-Inv-loop b n at₀ p₀ left₀ at p left = (p + 4 * left ≡ 8 + 4 * n) × (left ≤ n) × (at + 256 * left ≤ 256 * n) × (bodyEnd 0 (pairsAt n (drop 8 b)) ≡ bodyEnd at (pairsAt left (drop p b)))
+Inv-loop b n at₀ p₀ left₀ at p left = (p + 4 * left ≡ 8 + 4 * n) × (left ≤ n) × (at + 256 * left ≤ 256 * n) × (bodyEnd 0 (pairsAt n (drop countsLength b)) ≡ bodyEnd at (pairsAt left (drop p b)))
 
 abbrev μ-loop : tie.MeasureT-loop
 μ-loop b n at₀ p₀ left₀ at p left = left

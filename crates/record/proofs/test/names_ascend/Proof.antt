@@ -40,6 +40,9 @@ read16-requires c κs = search needs
 add-read16-2 : tie.Need-add-read16-2 Inv-loop μ-loop
 add-read16-2 c = search needs
 
+add-read16-3 : tie.Need-add-read16-3 Inv-loop μ-loop
+add-read16-3 c = search needs
+
 read16-requires-2 : tie.Need-read16-requires-2 Inv-loop μ-loop
 read16-requires-2 c κs = search needs
 
@@ -94,6 +97,7 @@ names-ascend-spec =
     add-read16
     read16-requires
     add-read16-2
+    add-read16-3
     read16-requires-2
     part-requires
     add-part

@@ -6,6 +6,7 @@ use lib.ListN.{drop}
 use borrow.Author.Tests.{lt-ltb, le-ltb, eq-eqb, ne-eqb}
 use mathlib.Core.Bool.{true, cond, _&&_}
 use Rattle.model.specs.Numbers.{number}
+use Rattle.model.specs.Layout.{pairLength}
 use Rattle.record.specs.Test.{pairsAt, pairLess, pairOk}
 use Rattle.record.proofs.Steps.{pairOk-at}
 use borrow.Author.Needs.{needs}
@@ -16,7 +17,7 @@ use Rattle.record.proofs.test.pair_ok.Tie as tie
 at-pair : (c : tie.After-read162) → pairOk (c .before .before .before .args .n) (pairsAt (c .before .before .before .args .left) (drop (c .before .before .before .args .at) (c .before .before .before .args .b .now)))
     ≡ (ltb (c .before .read16 .result) (c .before .before .before .args .n) && (ltb (c .read162 .result) (c .before .before .before .args .n)
     && cond (eqb (c .before .before .before .args .left) 1) true
-    (pairLess (c .before .read16 .result) (c .read162 .result) (number (c .before .before .before .args .b .now) (c .before .before .before .args .at + 4)) (number (c .before .before .before .args .b .now) (c .before .before .before .args .at + 6)))))
+    (pairLess (c .before .read16 .result) (c .read162 .result) (number (c .before .before .before .args .b .now) (c .before .before .before .args .at + pairLength)) (number (c .before .before .before .args .b .now) (c .before .before .before .args .at + pairLength + 2)))))
 at-pair c =
     let a = c .before .before .before .args in
     rw (c .before .read16 .ensures .0, c .read162 .ensures .0) (pairOk-at (a .n) (a .left) (a .at) (a .b .now) (search needs))
@@ -54,6 +55,9 @@ read16-requires-3 c κs = search needs
 add-read16-3 : tie.Need-add-read16-3
 add-read16-3 c = search needs
 
+add-read16-4 : tie.Need-add-read16-4
+add-read16-4 c = search needs
+
 read16-requires-4 : tie.Need-read16-requires-4
 read16-requires-4 c κs = search needs
 
@@ -81,6 +85,7 @@ pair-ok-spec =
     add-read16-2
     read16-requires-3
     add-read16-3
+    add-read16-4
     read16-requires-4
     pair-less-requires
     returns-4)

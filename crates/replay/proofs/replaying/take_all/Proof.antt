@@ -6,11 +6,6 @@ use lib.ListN.{length}
 use mathlib.Core.Path.{_≡_}
 use Rattle.replay.proofs.replaying.take_all.Statement.{statement}
 use Rattle.replay.proofs.replaying.take_all.Tie as tie
-use Rattle.replay.proofs.replaying.take_all.Reads as reads
-use Rattle.replay.proofs.replaying.take_all.Lts as lts
-use Rattle.listed.proofs.past.Reads as past-reads
-use Rattle.listed.proofs.upto.Reads as upto-reads
-use Rattle.replay.proofs.replaying.take.Reads as take-reads
 
 abbrev Inv-loop : tie.InvT-loop
 Inv-loop names list bytes₀ sizes₀ counts₀ from₀ number₀ bytes sizes counts from number = (number ≤ from + 1) × (length bytes ≡ length bytes₀) × (length sizes ≡ length sizes₀) × (length counts ≡ length counts₀)

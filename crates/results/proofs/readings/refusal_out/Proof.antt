@@ -12,7 +12,7 @@ enum-known-answer c = search needs
 
 cast-result : tie.Need-cast-result
 cast-result c =
-    let h = rw (c .before .answer .given .1) at (c .before .before .before .pre) in
+    let h = rw (c .before .before .answer .given .1) at (c .before .before .before .before .pre) in
     omega arith
 
 returns : tie.Need-returns
@@ -22,7 +22,7 @@ returns c =
 
 returns-2 : tie.Need-returns-2
 returns-2 c =
-    let e = c .before .answer .given .1 in
+    let e = c .before .before .answer .given .1 in
     (rw e, (rw e, (rw e, rw e)))
 
 pub refusal-out-spec : {M : Type 1} → statement M

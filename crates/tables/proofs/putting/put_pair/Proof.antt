@@ -1,6 +1,7 @@
 -- Both names are put in, then the number of their places, which are the names' own.
-use mathlib.Core.Path.{refl, _∙_}
+use mathlib.Core.Path.{_≡_, refl, _∙_}
 use Prim.Native.Nat.{_<_}
+use lib.ListN.{length}
 use Rattle.tables.specs.Tables.{Tables, tables, NamePut}
 use Rattle.tables.proofs.PutPair.{first-room, second-room, first-small, places-small, subgraph-put, translation-put}
 use native.Mathlib.Omega.{arith}
@@ -32,14 +33,43 @@ module _ (w : tie.After-put-name2) where
   two : NamePut mid (start .args .to .now) both (w .put-name2 .result .place)
   two = w .put-name2 .ensures
 
+  refs-kept : length (both .refs) ≡ length (first start .refs)
+  refs-kept = w .put-name2 .kept .0 ∙ name .put-name .kept .0
+
+  subs-kept : length (both .subs) ≡ length (first start .subs)
+  subs-kept = w .put-name2 .kept .1 .0 ∙ name .put-name .kept .1 .0
+
+  trans-kept : length (both .trans) ≡ length (first start .trans)
+  trans-kept = w .put-name2 .kept .1 .1 .0 ∙ name .put-name .kept .1 .1 .0
+
+  pool-kept : length (both .pool) ≡ length (first start .pool)
+  pool-kept = w .put-name2 .kept .1 .1 .1 .0 ∙ name .put-name .kept .1 .1 .1 .0
+
+  -- there is room for the pair
+  subgraph-room : both .sizes .subgraph < length (both .subs)
+  subgraph-room = omega (arith, start .pre .1 .subgraph, two .subgraph, one .subgraph, subs-kept)
+
+  translation-room : both .sizes .translation < length (both .trans)
+  translation-room = omega (arith, start .pre .1 .translation, two .translation, one .translation, trans-kept)
+
+abbrev names-in : tie.After-moved-place → tie.After-put-name2
+names-in c = c .before .before .before .before .before .before .before .before .before
+
+-- before the pair of either kind was put in
+abbrev subgraph-before : tie.After-slice-known13 → tie.After-moved-place
+subgraph-before c = c .before .before .before .before .before .before .before
+
+abbrev translation-before : tie.After-slice-known14 → tie.After-moved-place
+translation-before c = c .before .before .before .before .before .before .before
+
 -- the places are small
-small : (c : tie.After-moved-place) → let w = c .before .before .before .before .before .before .before .before .before in (c .moved-place .result < both w .sizes .names) × (w .put-name2 .result .place < both w .sizes .names) × (both w .sizes .names < 65536)
+small : (c : tie.After-moved-place) → let w = names-in c in (c .moved-place .result < both w .sizes .names) × (w .put-name2 .result .place < both w .sizes .names) × (both w .sizes .names < 65536)
 small c =
-    let w = c .before .before .before .before .before .before .before .before .before in
+    let w = names-in c in
     places-small (first (start w)) (mid w) (both w) _ _ _ _ (c .moved-place .result) (one w) (two w) (c .moved-place .ensures)
 
-last-first-requires : tie.Need-last-first-requires
-last-first-requires c κs =
+last-from-of-kind-requires : tie.Need-last-from-of-kind-requires
+last-from-of-kind-requires c κs =
     let s = c .before .before .before .before .before .before .before .before in
     (s .pre .0 .subgraph .within, s .pre .0 .translation .within)
 
@@ -72,69 +102,59 @@ enum-told : tie.Need-enum-told
 enum-told c = search needs
 
 put-number-requires : tie.Need-put-number-requires
-put-number-requires c κs =
-    let w = c .before .before .before .before .before .before .before .before .before .before .before .before .before in
-    let s = start w in
-    let n = w .put-name2 in
-    let p = w .before .before .before .before .before .before .before .before .before .before .before .before .before .put-name in
-    (omega (arith, s .pre .1 .subgraph, n .ensures .subgraph, p .ensures .subgraph, n .kept .1 .0, p .kept .1 .0), n .ensures .kept .subgraph .order)
+put-number-requires c κs = let w = names-in (c .before .before .before .before) in (subgraph-room w, two w .kept .subgraph .order)
 
 enum-told-2 : tie.Need-enum-told-2
 enum-told-2 c = search needs
 
 put-number-requires-2 : tie.Need-put-number-requires-2
-put-number-requires-2 c κs =
-    let w = c .before .before .before .before .before .before .before .before .before .before .before .before .before in
-    let s = start w in
-    let n = w .put-name2 in
-    let p = w .before .before .before .before .before .before .before .before .before .before .before .before .before .put-name in
-    (omega (arith, s .pre .1 .translation, n .ensures .translation, p .ensures .translation, n .kept .1 .1 .0, p .kept .1 .1 .0), n .ensures .kept .translation .order)
+put-number-requires-2 c κs = let w = names-in (c .before .before .before .before) in (translation-room w, two w .kept .translation .order)
 
 same-length : tie.Need-same-length
-same-length c = let w = c .before .before .before .before .before .before .before .before .before .before .before .before .before .before .before .before in w .put-name2 .kept .0 ∙ name w .put-name .kept .0
+same-length c = refs-kept (names-in (subgraph-before c))
 
 same-length-2 : tie.Need-same-length-2
-same-length-2 c = let w = c .before .before .before .before .before .before .before .before .before .before .before .before .before .before .before .before in c .before .before .put-number .kept .0 ∙ w .put-name2 .kept .1 .0 ∙ name w .put-name .kept .1 .0
+same-length-2 c = c .before .before .put-number .kept .0 ∙ subs-kept (names-in (subgraph-before c))
 
 same-length-3 : tie.Need-same-length-3
-same-length-3 c = let w = c .before .before .before .before .before .before .before .before .before .before .before .before .before .before .before .before in w .put-name2 .kept .1 .1 .0 ∙ name w .put-name .kept .1 .1 .0
+same-length-3 c = trans-kept (names-in (subgraph-before c))
 
 same-length-4 : tie.Need-same-length-4
-same-length-4 c = let w = c .before .before .before .before .before .before .before .before .before .before .before .before .before .before .before .before in w .put-name2 .kept .1 .1 .1 .0 ∙ name w .put-name .kept .1 .1 .1 .0
+same-length-4 c = pool-kept (names-in (subgraph-before c))
 
 returns : tie.Need-returns
 returns c =
-    let m = c .before .before .before .before .before .before .before in
-    let w = m .before .before .before .before .before .before .before .before .before in
+    let m = subgraph-before c in
+    let w = names-in m in
     let r = c .before .before .put-number in
     subgraph-put (first (start w)) (mid w) (both w) _ _ _ _ (m .moved-place .result) (one w) (two w) (m .moved-place .ensures) (start w .args .kind) (c .before .before .before .before .enum-told .given .1) (r .result) (r .last .0) (r .ensures .1)
-    (omega (arith, r .ensures .0, r .kept .0, start w .pre .1 .subgraph, w .put-name2 .ensures .subgraph, name w .put-name .ensures .subgraph, w .put-name2 .kept .1 .0, name w .put-name .kept .1 .0))
+    (omega (arith, r .ensures .0, r .kept .0, subgraph-room w))
 
 same-length-5 : tie.Need-same-length-5
-same-length-5 c = let w = c .before .before .before .before .before .before .before .before .before .before .before .before .before .before .before .before in w .put-name2 .kept .0 ∙ name w .put-name .kept .0
+same-length-5 c = refs-kept (names-in (translation-before c))
 
 same-length-6 : tie.Need-same-length-6
-same-length-6 c = let w = c .before .before .before .before .before .before .before .before .before .before .before .before .before .before .before .before in w .put-name2 .kept .1 .0 ∙ name w .put-name .kept .1 .0
+same-length-6 c = subs-kept (names-in (translation-before c))
 
 same-length-7 : tie.Need-same-length-7
-same-length-7 c = let w = c .before .before .before .before .before .before .before .before .before .before .before .before .before .before .before .before in c .before .before .put-number2 .kept .0 ∙ w .put-name2 .kept .1 .1 .0 ∙ name w .put-name .kept .1 .1 .0
+same-length-7 c = c .before .before .put-number2 .kept .0 ∙ trans-kept (names-in (translation-before c))
 
 same-length-8 : tie.Need-same-length-8
-same-length-8 c = let w = c .before .before .before .before .before .before .before .before .before .before .before .before .before .before .before .before in w .put-name2 .kept .1 .1 .1 .0 ∙ name w .put-name .kept .1 .1 .1 .0
+same-length-8 c = pool-kept (names-in (translation-before c))
 
 returns-2 : tie.Need-returns-2
 returns-2 c =
-    let m = c .before .before .before .before .before .before .before in
-    let w = m .before .before .before .before .before .before .before .before .before in
+    let m = translation-before c in
+    let w = names-in m in
     let r = c .before .before .put-number2 in
     translation-put (first (start w)) (mid w) (both w) _ _ _ _ (m .moved-place .result) (one w) (two w) (m .moved-place .ensures) (start w .args .kind) (c .before .before .before .before .enum-told2 .given .1) (r .result) (r .last .0) (r .ensures .1)
-    (omega (arith, r .ensures .0, r .kept .0, start w .pre .1 .translation, w .put-name2 .ensures .translation, name w .put-name .ensures .translation, w .put-name2 .kept .1 .1 .0, name w .put-name .kept .1 .1 .0))
+    (omega (arith, r .ensures .0, r .kept .0, translation-room w))
 
 pub put-pair-spec : {M : Type 1} → statement M
 put-pair-spec =
     tie.close
     (tie.spec
-    last-first-requires
+    last-from-of-kind-requires
     put-name-requires
     put-name-requires-2
     moved-place-requires

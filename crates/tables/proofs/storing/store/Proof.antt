@@ -10,29 +10,29 @@ use borrow.Author.Needs.{needs}
 use Rattle.tables.proofs.storing.store.Statement.{statement}
 use Rattle.tables.proofs.storing.store.Tie as tie
 
-put-head-requires : tie.Need-put-head-requires
-put-head-requires c κs = search needs
+store-counts-requires : tie.Need-store-counts-requires
+store-counts-requires c κs = search needs
 
-put-entries-requires : tie.Need-put-entries-requires
-put-entries-requires c κs = search needs
+store-entries-requires : tie.Need-store-entries-requires
+store-entries-requires c κs = search needs
 
-put-pairs-requires : tie.Need-put-pairs-requires
-put-pairs-requires c κs = search needs
+store-pairs-requires : tie.Need-store-pairs-requires
+store-pairs-requires c κs = search needs
 
-put-pairs-requires-2 : tie.Need-put-pairs-requires-2
-put-pairs-requires-2 c κs = search needs
+store-pairs-requires-2 : tie.Need-store-pairs-requires-2
+store-pairs-requires-2 c κs = search needs
 
-put-bodies-requires : tie.Need-put-bodies-requires
-put-bodies-requires c κs = search needs
+store-bodies-requires : tie.Need-store-bodies-requires
+store-bodies-requires c κs = search needs
 
 clear-requires : tie.Need-clear-requires
 clear-requires c κs =
     let s = c .before .before .before .before .before .before .before .before .before .before .before .before .before .before .before .before .before .before .before .before .before .before .before .before .before .before in
-    let h = c .before .before .before .before .before .before .before .before .before .before .before .before .before .before .before .before .before .before .before .put-head in
-    let e = c .before .before .before .before .before .before .before .before .before .before .before .before .before .before .before .put-entries in
-    let u = c .before .before .before .before .before .before .before .before .before .before .before .put-pairs in
-    let v = c .before .before .before .before .before .before .before .put-pairs2 in
-    let b = c .before .before .before .put-bodies in
+    let h = c .before .before .before .before .before .before .before .before .before .before .before .before .before .before .before .before .before .before .before .store-counts in
+    let e = c .before .before .before .before .before .before .before .before .before .before .before .before .before .before .before .store-entries in
+    let u = c .before .before .before .before .before .before .before .before .before .before .before .store-pairs in
+    let v = c .before .before .before .before .before .before .before .store-pairs2 in
+    let b = c .before .before .before .store-bodies in
     let k = s .pre .0 in
     omega (arith, k .kept .total, k .count, k .bytes, k .subgraph, k .translation, h .ensures .0, e .ensures .0, u .ensures .0, v .ensures .0, b .ensures .0, h .kept .0, e .kept .0, u .kept .0, v .kept .0, b .kept .0)
 
@@ -43,11 +43,11 @@ returns : tie.Need-returns
 returns c =
     let s = c .before .before .before .before .before .before .before .before .before .before .before .before .before .before .before .before .before .before .before .before .before .before .before .before .before .before .before .before .before in
     let a = s .args in
-    let h = c .before .before .before .before .before .before .before .before .before .before .before .before .before .before .before .before .before .before .before .before .before .before .put-head in
-    let e = c .before .before .before .before .before .before .before .before .before .before .before .before .before .before .before .before .before .before .put-entries in
-    let u = c .before .before .before .before .before .before .before .before .before .before .before .before .before .before .put-pairs in
-    let v = c .before .before .before .before .before .before .before .before .before .before .put-pairs2 in
-    let b = c .before .before .before .before .before .before .put-bodies in
+    let h = c .before .before .before .before .before .before .before .before .before .before .before .before .before .before .before .before .before .before .before .before .before .before .store-counts in
+    let e = c .before .before .before .before .before .before .before .before .before .before .before .before .before .before .before .before .before .before .store-entries in
+    let u = c .before .before .before .before .before .before .before .before .before .before .before .before .before .before .store-pairs in
+    let v = c .before .before .before .before .before .before .before .before .before .before .store-pairs2 in
+    let b = c .before .before .before .before .before .before .store-bodies in
     let z = c .before .before .clear in
     let long = b .kept .0 ∙ v .kept .0 ∙ u .kept .0 ∙ e .kept .0 ∙ h .kept .0 ∙ s .pre .1 in
     stored (tables (a .refs .now) (a .subs .now) (a .trans .now) (a .pool .now) (a .sizes)) (a .own) (s .pre .0) (a .buffer .now) _ _ _ _ _ _
@@ -59,11 +59,11 @@ pub store-spec : {M : Type 1} → statement M
 store-spec =
     tie.close
     (tie.spec
-    put-head-requires
-    put-entries-requires
-    put-pairs-requires
-    put-pairs-requires-2
-    put-bodies-requires
+    store-counts-requires
+    store-entries-requires
+    store-pairs-requires
+    store-pairs-requires-2
+    store-bodies-requires
     clear-requires
     same-length
     returns)

@@ -4,9 +4,6 @@ use Prim.Native.Nat.{_-_, _≤_}
 use lib.ListN.{length}
 use Rattle.test_examples.proofs.output.print_shown.Statement.{statement}
 use Rattle.test_examples.proofs.output.print_shown.Tie as tie
-use Rattle.test_examples.proofs.output.print_shown.Reads as reads
-use Rattle.test_examples.proofs.output.print_shown.Lts as lts
-use Rattle.test_examples.proofs.output.print.Reads as print-reads
 
 abbrev Inv-loop : tie.InvT-loop
 Inv-loop s i₀ t4 t5 i-end i = i ≤ length s

@@ -5,10 +5,6 @@ use lib.ListN.{length}
 use mathlib.Core.Path.{_≡_}
 use Rattle.test_examples.proofs.sizes.add_names.Statement.{statement}
 use Rattle.test_examples.proofs.sizes.add_names.Tie as tie
-use Rattle.test_examples.proofs.sizes.add_names.Reads as reads
-use Rattle.test_examples.proofs.sizes.add_names.Lts as lts
-use Rattle.test_examples.proofs.sizes.add_name.Reads as add-name-reads
-use Rattle.test_examples.proofs.sizes.record_buffer.Reads as record-buffer-reads
 
 abbrev Inv-loop : tie.InvT-loop
 Inv-loop names size b₀ last₀ i₀ b last i = length b ≡ length b₀
@@ -16,8 +12,8 @@ Inv-loop names size b₀ last₀ i₀ b last i = length b ≡ length b₀
 abbrev μ-loop : tie.MeasureT-loop
 μ-loop names size b₀ last₀ i₀ b last i = names - i
 
-record-buffer-requires : tie.Need-record-buffer-requires Inv-loop μ-loop
-record-buffer-requires c κs = search needs
+empty-record-requires : tie.Need-empty-record-requires Inv-loop μ-loop
+empty-record-requires c κs = search needs
 
 slice-aggregate-b : tie.Need-slice-aggregate-b Inv-loop μ-loop
 slice-aggregate-b c = search needs
@@ -46,7 +42,7 @@ add-names-spec =
     (tie.spec
     Inv-loop
     μ-loop
-    record-buffer-requires
+    empty-record-requires
     slice-aggregate-b
     loop-holds
     add-name-requires

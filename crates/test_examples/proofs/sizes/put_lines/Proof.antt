@@ -5,11 +5,6 @@ use lib.ListN.{length}
 use mathlib.Core.Path.{_≡_}
 use Rattle.test_examples.proofs.sizes.put_lines.Statement.{statement}
 use Rattle.test_examples.proofs.sizes.put_lines.Tie as tie
-use Rattle.test_examples.proofs.sizes.put_lines.Reads as reads
-use Rattle.test_examples.proofs.sizes.put_lines.Lts as lts
-use Rattle.test_examples.proofs.sizes.put.Reads as put-reads
-use Rattle.test_examples.proofs.sizes.put_name.Reads as put-name-reads
-use Rattle.test_examples.proofs.sizes.put_text.Reads as put-text-reads
 
 abbrev Inv-loop : tie.InvT-loop
 Inv-loop out₀ names size p₀ i₀ t6 out p i = length out ≡ length out₀

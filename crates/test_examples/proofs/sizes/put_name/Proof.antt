@@ -5,10 +5,6 @@ use lib.ListN.{length}
 use mathlib.Core.Path.{_≡_}
 use Rattle.test_examples.proofs.sizes.put_name.Statement.{statement}
 use Rattle.test_examples.proofs.sizes.put_name.Tie as tie
-use Rattle.test_examples.proofs.sizes.put_name.Reads as reads
-use Rattle.test_examples.proofs.sizes.put_name.Lts as lts
-use Rattle.test_examples.proofs.sizes.put.Reads as put-reads
-use Rattle.test_examples.proofs.sizes.put_digit.Reads as put-digit-reads
 
 abbrev Inv-loop : tie.InvT-loop
 Inv-loop out₀ at i size hundreds tens p₀ counter₀ out p counter = length out ≡ length out₀

@@ -5,7 +5,7 @@ use lib.ListN.{length, getD, set, length-set}
 use lib.Seq.{getD-set-same, getD-set-other}
 use denote.Ref.{now}
 use borrow.Author.Count.{below-more}
-use Rattle.model.specs.Numbers.{number}
+use Rattle.model.specs.Layout.{pairLength, fromPlace, toPlace}
 use Rattle.union.specs.Keys.{keyAt}
 use native.Mathlib.Omega.{arith}
 use Rattle.union.proofs.edges.read_keys.Statement.{statement}
@@ -21,7 +21,7 @@ abbrev start : tie.At-loop Inv-loop μ-loop → tie.Start Inv-loop μ-loop
 start c = c .before .before .before .before
 
 -- the places of the pair at hand have numbers
-places : (c : tie.In-loop Inv-loop μ-loop) → (number (now (start (c .before) .args .b)) (start (c .before) .args .at + 4 * c .before .loop .p) < length (now (start (c .before) .args .numbers))) × (number (now (start (c .before) .args .b)) (start (c .before) .args .at + 4 * c .before .loop .p + 2) < length (now (start (c .before) .args .numbers)))
+places : (c : tie.In-loop Inv-loop μ-loop) → (fromPlace (now (start (c .before) .args .b)) (start (c .before) .args .at + pairLength * c .before .loop .p) < length (now (start (c .before) .args .numbers))) × (toPlace (now (start (c .before) .args .b)) (start (c .before) .args .at + pairLength * c .before .loop .p) < length (now (start (c .before) .args .numbers)))
 places c = start (c .before) .pre .places _ (omega (arith, c .loop-test .taken, c .before .loop .inv .0))
 
 loop-holds : tie.Need-loop-holds Inv-loop μ-loop

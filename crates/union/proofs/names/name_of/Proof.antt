@@ -29,7 +29,7 @@ sub-name-at c = search needs
 name-at-requires : tie.Need-name-at-requires
 name-at-requires c κs =
     let s = start (c .before) in
-    (s .pre .0 .first-size, omega (arith, s .pre .0 .in-first _ (s .pre .1), c .if1 .taken))
+    omega (arith, s .pre .0 .first-size, s .pre .0 .in-first _ (s .pre .1), c .if1 .taken)
 
 returns : tie.Need-returns
 unfolding nameOf
@@ -55,7 +55,7 @@ sub-name-at-2 c = let s = start (c .before .before) in omega (arith, s .pre .0 .
 name-at-requires-2 : tie.Need-name-at-requires-2
 name-at-requires-2 c κs =
     let s = start (c .before .before) in
-    (s .pre .0 .second-size, omega (arith, s .pre .0 .in-second _ (s .pre .1), s .pre .0 .held _ (s .pre .1) (c .before .if1 .left)))
+    omega (arith, s .pre .0 .second-size, s .pre .0 .in-second _ (s .pre .1), s .pre .0 .held _ (s .pre .1) (c .before .if1 .left))
 
 returns-2 : tie.Need-returns-2
 unfolding nameOf

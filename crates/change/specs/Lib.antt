@@ -1,3 +1,0 @@
-pub mod Loading
-pub mod Merging
-pub mod Changing

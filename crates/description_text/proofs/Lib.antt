@@ -1,4 +1,0 @@
-pub mod Runs
-pub mod Sequence
-pub mod Sizes
-pub mod Parts
