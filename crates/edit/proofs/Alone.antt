@@ -2,12 +2,12 @@
 use mathlib.Core.Path.{_≡_, refl, sym, ap, _∙_}
 use mathlib.Core.Logic.{⊎-elim}
 use mathlib.Core.List.{[], _∷_, List·Memᴰ, List·Memᴰ·not-nil, List·Memᴰ·cases-cons}
-use Prim.Native.Nat.{ℕ, _-_, _/_, _%_, _≤_, _<_}
+use Prim.Native.Nat.{_/_, _%_, _≤_, _<_}
 use native.Mathlib.Omega.{arith}
-use lib.ListN.{length, length-append, replicate, length-replicate}
+use lib.ListN.{length, length-append, replicate}
 use lib.Seq.{take-all}
 use borrow.Author.Tests.{lt-ltb, le-ltb}
-use Rattle.model.specs.Bytes.{Bytes, put}
+use Rattle.model.specs.Bytes.{Bytes}
 use Rattle.model.specs.Record.{insert, insertAll, empty, withName, names, judge, bodies}
 use Rattle.model.specs.Layout.{recordLength, encode}
 use Rattle.model.specs.Outcome.{freshOr, newRecord}
@@ -16,7 +16,6 @@ use Rattle.record.proofs.Opening.{written-opened, written-refused}
 use Rattle.record.specs.Test.{Under}
 use Rattle.record.specs.Coded.{meaning}
 use Rattle.tables.specs.Tables.{Tables, tables, bodyIn, readOut, Storable}
-use Rattle.tables.proofs.Stored.{put-whole}
 
 module _ (name : Bytes) where
   alone : names (withName name empty) ≡ name ∷ []
@@ -45,12 +44,6 @@ module _ (name : Bytes) where
     pub new-short : length b ≡ recordLength → length name ≤ 256 → newRecord name b ≡ record { number = 0; buffer = encode (withName name empty) }
     unfolding newRecord
     new-short e h = rw (written-opened b e) (fresh-short h)
-
--- a cleared buffer
-pub cleared : (b l : Bytes) → length b ≡ recordLength → l ≡ put b 0 (replicate (length b - 0) 0) → l ≡ replicate recordLength 0
-cleared b l e d =
-    let n : length b - 0 ≡ recordLength = omega arith in
-    d ∙ ap (λ (k : ℕ). put b 0 (replicate k 0)) n ∙ put-whole b (replicate recordLength 0) (length-replicate {A = ℕ} recordLength 0 ∙ sym e)
 
 -- tables of a short name alone, whose pool is the name
 module _ (name : Bytes) (short : length name ≤ 256) where

@@ -23,19 +23,21 @@ pub(crate) fn pool() -> [u8; 45808]
     [0; 45808]
 }
 
-// The same for small graph names: 128 names and four more, 128 pairs of a kind and two more, 8,192 bytes and three names more.
+// A small table of names: 128 and four more.
 pub(crate) fn small_name_table() -> [u32; 132]
     ensures { λ r. ⌜ length r ≡ 132 ⌝ }
 {
     [0; 132]
 }
 
+// A small table of pairs of one kind: 128 and two more.
 pub(crate) fn small_pair_table() -> [u32; 130]
     ensures { λ r. ⌜ length r ≡ 130 ⌝ }
 {
     [0; 130]
 }
 
+// A small pool: 8,192 bytes, and three more names of the longest.
 pub(crate) fn small_pool() -> [u8; 8960]
     ensures { λ r. ⌜ length r ≡ 8960 ⌝ }
 {

@@ -7,5 +7,5 @@ pub mod ReadBack
 pub mod Texts
 pub mod Runs
 pub mod Wording
-pub mod Opened
+pub mod Tested
 pub mod Answering

@@ -1,10 +1,10 @@
 -- A reading's start and its end: the tables with nothing taken, the empty record, and what is answered.
-use mathlib.Core.Path.{_≡_, refl, sym, ap, _∙_}
+use mathlib.Core.Path.{_≡_, refl, sym, _∙_}
 use mathlib.Core.Option.{none}
-use mathlib.Core.List.{List, append-nil, List·Memᴰ·not-nil}
-use Prim.Native.Nat.{ℕ, _+_, _-_}
+use mathlib.Core.List.{List, List·Memᴰ·not-nil}
+use Prim.Native.Nat.{ℕ, _-_}
 use native.Mathlib.Omega.{arith}
-use lib.ListN.{length, replicate, drop-of-length-le, length-replicate}
+use lib.ListN.{length, replicate}
 use Rattle.model.specs.Bytes.{Bytes, put}
 use Rattle.model.specs.Record.{empty, insertAll, names, judge}
 use Rattle.model.specs.Layout.{recordLength, encode}
@@ -14,6 +14,7 @@ use Rattle.model.specs.Outcome.{outcomeOf, readingInto, refusalOf, refusalInto}
 use Rattle.record.specs.Test.{Under}
 use Rattle.record.proofs.Opening.{written-opened, written-refused}
 use Rattle.tables.specs.Tables.{tables}
+use Rattle.tables.proofs.Writing.{cleared}
 use Rattle.tables.specs.Judging.{Good}
 use Rattle.tables.specs.declared.putting.Sizes.{Sizes}
 use Rattle.tables.specs.Tables.{Tables}
@@ -72,17 +73,6 @@ module _ (refs subs trans : List ℕ) (pool own : Bytes) (f : Lengths refs subs 
 
 -- ------------------------------------------------------------------ the end
 
-put-whole : (buffer x : Bytes) → length x ≡ length buffer → put buffer 0 x ≡ x
-unfolding put
-put-whole buffer x e = rw (drop-of-length-le buffer {i = 0 + length x} (omega arith)) (append-nil x)
-
--- a buffer cleared from its start is the empty record
-cleared : (buffer : Bytes) → length buffer ≡ recordLength → put buffer 0 (replicate (length buffer - 0) 0) ≡ replicate recordLength 0
-cleared buffer e =
-    let z : length buffer - 0 ≡ recordLength = omega arith in
-    put-whole buffer (replicate (length buffer - 0) 0) (length-replicate {A = ℕ} (length buffer - 0) 0 ∙ omega arith)
-    ∙ ap (λ (n : ℕ). replicate {A = ℕ} n 0) z
-
 -- a reading into a buffer, by the buffer's size
 module _ (buffer : Bytes) (r : Refusal) (m : Reading) where
   pub finished : length buffer ≡ recordLength → (n : Reading) → n ≡ m → (b : Bytes) → (r ≡ refusalOf n) × (b ≡ outcomeOf n .buffer)
@@ -101,4 +91,4 @@ module _ (at : Sizes → Tables) (own : Bytes) (r : Ended) (buffer b : Bytes) wh
 
   pub refused-ended : (q : Given) → r ≡ Refused q → length buffer ≡ recordLength → b ≡ put buffer 0 (replicate (length buffer - 0) 0)
       → (refusalIn (Denied q) ≡ refusalOf (readingOf at own r)) × (b ≡ outcomeOf (readingOf at own r) .buffer)
-  refused-ended q e l d = rw e (refl, d ∙ cleared buffer l)
+  refused-ended q e l d = rw e (refl, d ∙ cleared buffer recordLength l)

@@ -12,10 +12,10 @@ use Rattle.model.specs.declared.Kind.the-variants.{Subgraph, Translation}
 use Rattle.model.specs.Bytes.{Bytes}
 use Rattle.model.specs.Numbers.{number}
 use Rattle.model.specs.Record.{Pair, GraphName, names}
-use Rattle.model.specs.Layout.{bodyLength, bodyStart, countsLength, nameCount, ownNumber, recordLength, nameAt, pairsFrom, ownAt, shown, decode, bodiesAt, pairCount, tableAt}
+use Rattle.model.specs.Layout.{bodyLength, bodyStart, countsLength, entryLength, pairLength, nameCount, ownNumber, recordLength, nameAt, pairsFrom, ownAt, shown, decode, bodiesAt, pairCount, tableAt}
 use Rattle.text.proofs.Places.{getD-member}
 use Rattle.record.specs.Test.{pairsAt, pairsOk, entriesOf, namesOf}
-use Rattle.record.proofs.Words.{length-pairsAt, getD-pairsAt}
+use Rattle.record.proofs.Words.{length-rowsAt, getD-rowsAt}
 use Rattle.record.proofs.Entries.{entry-within}
 use Rattle.record.proofs.Places.{under-pair}
 use Rattle.record.proofs.TestLaws.{pairsOk-true}
@@ -33,15 +33,15 @@ pairAt b at = record { from = nameAt b (number b at); to = nameAt b (number b (a
 length-pairsFrom : (b : Bytes) (at k : ℕ) → length (pairsFrom b at k) ≡ k
 unfolding pairsFrom
 length-pairsFrom b at zero = refl
-length-pairsFrom b at (suc k) = ap suc (length-pairsFrom b (at + 4) k)
+length-pairsFrom b at (suc k) = ap suc (length-pairsFrom b (at + pairLength) k)
 
-getD-pairsFrom : (b : Bytes) (at k i : ℕ) (d : Pair) → i < k → getD (pairsFrom b at k) i d ≡ pairAt b (at + 4 * i)
+getD-pairsFrom : (b : Bytes) (at k i : ℕ) (d : Pair) → i < k → getD (pairsFrom b at k) i d ≡ pairAt b (at + pairLength * i)
 unfolding pairsFrom
 getD-pairsFrom b at zero i d h = absurd (omega arith)
 getD-pairsFrom b at (suc k) zero d h = rw add-zero
 getD-pairsFrom b at (suc k) (suc i) d h =
-    let e : at + 4 * suc i ≡ at + 4 + 4 * i = omega arith in
-    rw e (getD-pairsFrom b (at + 4) k i d (omega arith))
+    let e : at + pairLength * suc i ≡ at + pairLength + pairLength * i = omega arith in
+    rw e (getD-pairsFrom b (at + pairLength) k i d (omega arith))
 
 module _ (b : Bytes) (g : GraphName) (e : decode b ≡ some g) where
   -- ------------------------------------------------------------------ names
@@ -66,8 +66,8 @@ module _ (b : Bytes) (g : GraphName) (e : decode b ≡ some g) where
       → (bodiesAt b + bodyStart b i + bodyLength b i ≤ recordLength) × (bodyLength b i ≤ 256)
   name-within i k =
       let h = decode-held b g e in
-      let l = length-pairsAt (nameCount b) (drop countsLength b) in
-      let w = rw (getD-pairsAt (nameCount b) 8 b i k) at (entry-within (entriesOf b) 0 i (h .row) (omega arith)) in
+      let l = length-rowsAt entryLength (nameCount b) (drop countsLength b) in
+      let w = rw (getD-rowsAt entryLength (nameCount b) countsLength b i k) at (entry-within (entriesOf b) 0 i (h .row) (omega arith)) in
       (omega arith, w .2)
 
   -- ------------------------------------------------------------------ pairs
@@ -80,18 +80,18 @@ module _ (b : Bytes) (g : GraphName) (e : decode b ≡ some g) where
   pub record-pairCount : (k : Kind) → length (pairsOf k g) ≡ pairCount k b
   record-pairCount k = rw (record-pairs k) (length-pairsFrom b (tableAt k b) (pairCount k b))
 
-  pub record-pair : (k : Kind) (i : ℕ) (d : Pair) → i < pairCount k b → getD (pairsOf k g) i d ≡ pairAt b (tableAt k b + 4 * i)
+  pub record-pair : (k : Kind) (i : ℕ) (d : Pair) → i < pairCount k b → getD (pairsOf k g) i d ≡ pairAt b (tableAt k b + pairLength * i)
   record-pair k i d h = rw (record-pairs k) (getD-pairsFrom b (tableAt k b) (pairCount k b) i d h)
 
   -- a pair's places are places of names
   pub pair-within : (k : Kind) (i : ℕ) → i < pairCount k b
-      → (number b (tableAt k b + 4 * i) < nameCount b) × (number b (tableAt k b + 4 * i + 2) < nameCount b)
+      → (number b (tableAt k b + pairLength * i) < nameCount b) × (number b (tableAt k b + pairLength * i + 2) < nameCount b)
   pair-within k i h =
       let ps = pairsAt (pairCount k b) (drop (tableAt k b) b) in
       let u = pairsOk-true (nameCount b) ps .0 (kind-ok k) .0 in
-      let l = length-pairsAt (pairCount k b) (drop (tableAt k b) b) in
+      let l = length-rowsAt pairLength (pairCount k b) (drop (tableAt k b) b) in
       let m = getD-member (0, 0) ps i (omega arith) in
-      rw (getD-pairsAt (pairCount k b) (tableAt k b) b i h) at (under-pair (nameCount b) ps (getD ps i (0, 0)) u m)
+      rw (getD-rowsAt pairLength (pairCount k b) (tableAt k b) b i h) at (under-pair (nameCount b) ps (getD ps i (0, 0)) u m)
     where
       kind-ok : (k : Kind) → pairsOk (nameCount b) (pairsAt (pairCount k b) (drop (tableAt k b) b)) ≡ true
       kind-ok Subgraph = decode-held b g e .subgraph

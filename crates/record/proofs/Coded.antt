@@ -132,6 +132,24 @@ valid-fits g v =
         rw (placesUsed-coded g)
         (Memᴰ·cast (sym (place-of-name (names g) i (names-ascending g) h)) (member-map (λ (x : Bytes). placeOf x (names g)) (allNames g) n m))
 
+-- ------------------------------------------------------------------ from a form
+
+-- places of ascending names that are all used are those of the graph name
+pub coded-again : (c : Coded) → names (meaning c) ≡ c .names → Ascending compareBytes (c .names) → c .own ≤ length (c .names)
+    → Under (length (c .names)) (c .subgraph) → Under (length (c .names)) (c .translation) → coded (meaning c) ≡ c
+coded-again c e a o s t =
+    ap (codedBy (meaning c)) e
+    ∙ (λ i. record {
+      names = c .names;
+      own = own-place (c .own) o i;
+      subgraph = places-in (c .names) (c .subgraph) a s i;
+      translation = places-in (c .names) (c .translation) a t i;
+    })
+  where
+    own-place : (o : ℕ) → o ≤ length (c .names) → ownPlace (c .names) (ownIn (c .names) o) ≡ o
+    own-place zero h = refl
+    own-place (suc i) h = ap suc (place-of-name (c .names) i a h)
+
 -- ------------------------------------------------------------------ from a form that fits
 
 module _ (c : Coded) (f : Fits c) where
@@ -174,17 +192,7 @@ module _ (c : Coded) (f : Fits c) where
 
   pub coded-meaning : coded (meaning c) ≡ c
   coded-meaning =
-      ap (codedBy (meaning c)) names-meaning
-      ∙ (λ i. record {
-        names = c .names;
-        own = own-place (c .own) (f .own) i;
-        subgraph = places-in (c .names) (c .subgraph) ascending (under (c .subgraph) (f .subgraph)) i;
-        translation = places-in (c .names) (c .translation) ascending (under (c .translation) (f .translation)) i;
-      })
-    where
-      own-place : (o : ℕ) → o ≤ length (c .names) → ownPlace (c .names) (ownIn (c .names) o) ≡ o
-      own-place zero h = refl
-      own-place (suc i) h = ap suc (place-of-name (c .names) i ascending h)
+      coded-again c names-meaning ascending (f .own) (under (c .subgraph) (f .subgraph)) (under (c .translation) (f .translation))
 
   pub meaning-valid : Valid (meaning c)
   meaning-valid = record {

@@ -1,5 +1,6 @@
 -- The laws of a record, from the numbers at its places up to what it means and what is asked of it.
 pub mod Words
+pub mod Written
 pub mod Steps
 pub mod Marks
 pub mod Entries

@@ -11,10 +11,10 @@ use Rattle.model.specs.declared.Kind.the-variants.{Subgraph, Translation}
 use Rattle.model.specs.Bytes.{Bytes}
 use Rattle.model.specs.Numbers.{number}
 use Rattle.model.specs.Record.{Pair, GraphName, names, bodies}
-use Rattle.model.specs.Layout.{bodyOf, bodyLength, bodyStart, nameCount, ownNumber, ownAt, decode, bodiesAt, pairCount, tableAt}
+use Rattle.model.specs.Layout.{bodyOf, countsLength, entryLength, pairLength, bodyLength, bodyStart, nameCount, ownNumber, ownAt, decode, bodiesAt, pairCount, tableAt}
 use Rattle.model.specs.Questions.{Part, PairParts, partOf, mapped, pairParts, pairsOf}
 use Rattle.record.specs.Test.{entriesOf}
-use Rattle.record.proofs.Words.{getD-pairsAt}
+use Rattle.record.proofs.Words.{getD-rowsAt}
 use Rattle.record.specs.Coded.{spans}
 use Rattle.record.proofs.Entries.{cut-holds}
 use Rattle.record.proofs.Places.{place-of-name}
@@ -56,7 +56,7 @@ module _ (b : Bytes) (g : GraphName) (e : decode b ≡ some g) where
       let h = decode-held b g e in
       let es = cut-holds (entriesOf b) 0 (drop (bodiesAt b) b) (h .row) (rw length-drop (omega arith)) .entries in
       let p =
-      sym (getD-pairsAt (nameCount b) 8 b i k)
+      sym (getD-rowsAt entryLength (nameCount b) countsLength b i k)
       ∙ ap (λ (l : List (ℕ × ℕ)). getD l i (0, 0)) (sym es ∙ ap (spans 0) (sym (record-names b g e)))
       ∙ getD-spans 0 (names g) i (rw (record-count b g e) k) in
       (ap (λ (q : ℕ × ℕ). q .0) p ∙ zero-add _, ap (λ (q : ℕ × ℕ). q .1) p)
@@ -83,17 +83,17 @@ module _ (b : Bytes) (g : GraphName) (e : decode b ≡ some g) where
   own-out k = rw (record-own b g e, k)
 
   pub pair-in : (k : Kind) (i : ℕ) → i < pairCount k b
-      → mapped (pairParts g) (getElem? (pairsOf k g) i) ≡ some (entryParts b (number b (tableAt k b + 4 * i)) (number b (tableAt k b + 4 * i + 2)))
+      → mapped (pairParts g) (getElem? (pairsOf k g) i) ≡ some (entryParts b (number b (tableAt k b + pairLength * i)) (number b (tableAt k b + pairLength * i + 2)))
   pair-in k i h =
       let d : Pair = record { from = []; to = [] } in
       let w = pair-within b g e k i h in
       rw (
         getElem-in (pairsOf k g) i d (rw (record-pairCount b g e k) h),
         record-pair b g e k i d h,
-        ← record-name b g e (number b (tableAt k b + 4 * i)) (w .0),
-        ← record-name b g e (number b (tableAt k b + 4 * i + 2)) (w .1),
-        part-at (number b (tableAt k b + 4 * i)) (w .0),
-        part-at (number b (tableAt k b + 4 * i + 2)) (w .1),
+        ← record-name b g e (number b (tableAt k b + pairLength * i)) (w .0),
+        ← record-name b g e (number b (tableAt k b + pairLength * i + 2)) (w .1),
+        part-at (number b (tableAt k b + pairLength * i)) (w .0),
+        part-at (number b (tableAt k b + pairLength * i + 2)) (w .1),
       )
 
   pub pair-out : (k : Kind) (i : ℕ) → pairCount k b ≤ i → getElem? (pairsOf k g) i ≡ none

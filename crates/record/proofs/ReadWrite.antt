@@ -9,9 +9,9 @@ use lib.ListN.{length, take, drop, replicate, length-append, length-drop, length
 use lib.Seq.{drop-drop, getD-drop, drop-append-seam}
 use Rattle.model.specs.Bytes.{Bytes}
 use Rattle.model.specs.Record.{bodies}
-use Rattle.record.specs.Test.{pairsAt, pairsOk, bodyEnd, entriesOf, subgraphOf, translationOf, namesOf, Under}
+use Rattle.record.specs.Test.{rowsAt, pairsAt, pairsOk, bodyEnd, entriesOf, subgraphOf, translationOf, namesOf, Under}
 use Rattle.model.specs.Layout.{entryLength, pairLength, countsLength, nameCount, ownNumber, pairCount, recordLength, tableAt, bodiesAt}
-use Rattle.record.proofs.Words.{AllBytes, under-weaken, length-pairsAt, lePairs-pairsAt}
+use Rattle.record.proofs.Words.{AllBytes, under-weaken, length-rowsAt, lePairs-pairsAt}
 use Rattle.record.proofs.Held.{Held}
 use Rattle.record.proofs.Entries.{length-spans, length-cut, cut-spans, bodyEnd-spans, under-spans, Cut, cut-holds}
 use Rattle.record.proofs.TestLaws.{pairsOk-true}
@@ -85,7 +85,7 @@ bytes-drop : (a : ℕ) (b : Bytes) → AllBytes b → AllBytes (drop a b)
 bytes-drop a b h i = rw getD-drop (h (a + i))
 
 head-pairs : (b : Bytes) → pairsAt 2 b ≡ (nameCount b, ownNumber b) ∷ (pairCount Subgraph b, pairCount Translation b) ∷ []
-unfolding pairsAt
+unfolding rowsAt
 head-pairs b = simp getD-drop
 
 -- a buffer with room for its parts is made of them
@@ -97,9 +97,9 @@ parts-of b h k =
     let t = tableAt Translation b in
     let e : bodiesAt b ≡ t + pairLength * pairCount Translation b = omega arith in
     rw (
-      length-pairsAt (nameCount b) (drop countsLength b),
-      length-pairsAt (pairCount Subgraph b) (drop s b),
-      length-pairsAt (pairCount Translation b) (drop t b),
+      length-rowsAt entryLength (nameCount b) (drop countsLength b),
+      length-rowsAt pairLength (pairCount Subgraph b) (drop s b),
+      length-rowsAt pairLength (pairCount Translation b) (drop t b),
       ← head-pairs b,
       lePairs-pairsAt 2 b h (omega arith),
       lePairs-pairsAt (nameCount b) (drop countsLength b) (bytes-drop countsLength b h) (rw length-drop (omega arith)),
@@ -116,7 +116,7 @@ module _ (b : Bytes) (h : Held b) where
   names-cut = cut-holds (entriesOf b) 0 (drop (bodiesAt b) b) (h .row) (rw length-drop (omega arith))
 
   pub length-names : length (namesOf b) ≡ nameCount b
-  length-names = length-cut (entriesOf b) (drop (bodiesAt b) b) ∙ length-pairsAt (nameCount b) (drop countsLength b)
+  length-names = length-cut (entriesOf b) (drop (bodiesAt b) b) ∙ length-rowsAt entryLength (nameCount b) (drop countsLength b)
 
   bodyEnd-names : bodyEnd 0 (entriesOf b) ≡ length (bodies (namesOf b))
   bodyEnd-names =
@@ -128,8 +128,8 @@ module _ (b : Bytes) (h : Held b) where
   held-fits = record {
     count = rw length-names (h .count);
     own = rw length-names (h .own);
-    subgraphs = rw length-pairsAt (h .subgraphs);
-    translations = rw length-pairsAt (h .translations);
+    subgraphs = rw length-rowsAt (h .subgraphs);
+    translations = rw length-rowsAt (h .translations);
     short = names-cut .short;
     room = rw (← bodyEnd-names) (h .row);
     subgraph = rw length-names (h .subgraph);
@@ -147,8 +147,8 @@ module _ (b : Bytes) (h : Held b) where
       let cleared : Z ≡ replicate (length Z) 0 = zeros-only Z (rw drop-drop (h .rest)) in
       let whole : bodies (namesOf b) ++ Z ≡ X = rw sub-zero at (names-cut .whole) in
       let l = length-names in
-      let s = length-pairsAt (pairCount Subgraph b) (drop (tableAt Subgraph b) b) in
-      let t = length-pairsAt (pairCount Translation b) (drop (tableAt Translation b) b) in
+      let s = length-rowsAt pairLength (pairCount Subgraph b) (drop (tableAt Subgraph b) b) in
+      let t = length-rowsAt pairLength (pairCount Translation b) (drop (tableAt Translation b) b) in
       let e = bodyEnd-names in
       let left : recordLength - size (read b) ≡ length Z = simp length-drop (omega arith) in
       rw (names-cut .entries, left, ← cleared, whole) (parts-of b a (omega arith))

@@ -9,7 +9,7 @@ use borrow.Author.Tests.{le-leb, leb-true}
 use Rattle.text.specs.Blocks.{allZero}
 use Rattle.model.specs.Bytes.{Bytes}
 use Rattle.text.proofs.Tests.{both-true, same-tests}
-use Rattle.record.specs.Test.{pairsAt, Under, bodyEnd, pairsOk, countsOk, tablesOk, isRecord}
+use Rattle.record.specs.Test.{entriesAt, pairsAt, Under, bodyEnd, pairsOk, countsOk, tablesOk, isRecord}
 use Rattle.record.proofs.TestLaws.{pairsOk-true}
 use Rattle.record.proofs.Held.{held, held-record}
 use Rattle.model.specs.Layout.{bodiesAfter, countsLength, nameCount, ownNumber, pairCount, recordLength}
@@ -48,9 +48,9 @@ module _ (b : Bytes) (n own s t : ℕ) (en : n ≡ nameCount b) (eo : own ≡ ow
       clash (countsOk n own s t)
       (rw (en, eo, es, et, le-leb _ _ (h .count), le-leb _ _ (h .own), le-leb _ _ (h .subgraphs), le-leb _ _ (h .translations))) e
 
-  pub refuse-bodies : 22520 < bodyEnd 0 (pairsAt n (drop countsLength b)) → isRecord b ≡ false
+  pub refuse-bodies : 22520 < bodyEnd 0 (entriesAt n (drop countsLength b)) → isRecord b ≡ false
   refuse-bodies h = not-so (isRecord b) λ r.
-      let l : bodyEnd 0 (pairsAt n (drop countsLength b)) ≤ 22520 = rw en (held b r .row) in
+      let l : bodyEnd 0 (entriesAt n (drop countsLength b)) ≤ 22520 = rw en (held b r .row) in
       omega arith
 
   pub refuse-tables : tablesOk b n own s t ≡ false → isRecord b ≡ false
@@ -59,8 +59,8 @@ module _ (b : Bytes) (n own s t : ℕ) (en : n ≡ nameCount b) (eo : own ≡ ow
       let h = held b r in
       clash _ (rw (en, eo, es, et, h .subgraph, h .translation, h .order) (h .used)) e
 
-  pub zeros-decide : length b ≡ recordLength → countsOk n own s t ≡ true → bodyEnd 0 (pairsAt n (drop countsLength b)) ≤ 22520 → tablesOk b n own s t ≡ true
-      → allZero (drop (bodiesAfter n (s + t) + bodyEnd 0 (pairsAt n (drop countsLength b))) b) ≡ isRecord b
+  pub zeros-decide : length b ≡ recordLength → countsOk n own s t ≡ true → bodyEnd 0 (entriesAt n (drop countsLength b)) ≤ 22520 → tablesOk b n own s t ≡ true
+      → allZero (drop (bodiesAfter n (s + t) + bodyEnd 0 (entriesAt n (drop countsLength b))) b) ≡ isRecord b
   unfolding tablesOk
   zeros-decide l c r d =
       let k = counted n own s t c in

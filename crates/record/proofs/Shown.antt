@@ -8,9 +8,9 @@ use lib.ListN.{drop}
 use lib.Seq.{drop-drop}
 use Rattle.model.specs.Bytes.{Bytes}
 use Rattle.model.specs.Numbers.{number}
-use Rattle.model.specs.Layout.{countsLength, nameCount, ownNumber, pairCount, tableAt, nameAt, pairsFrom, ownAt, shown, bodiesAt}
-use Rattle.record.specs.Test.{pairsAt, entriesOf, subgraphOf, translationOf, namesOf, Under}
-use Rattle.record.proofs.Words.{length-pairsAt, pairsAt-step, getD-pairsAt}
+use Rattle.model.specs.Layout.{countsLength, entryLength, pairLength, nameCount, ownNumber, pairCount, tableAt, nameAt, pairsFrom, ownAt, shown, bodiesAt}
+use Rattle.record.specs.Test.{rowsAt, pairsAt, entriesOf, subgraphOf, translationOf, namesOf, Under}
+use Rattle.record.proofs.Words.{length-rowsAt, rowsAt-step, getD-rowsAt}
 use Rattle.record.proofs.Held.{Held}
 use Rattle.record.proofs.Entries.{getD-cut}
 use Rattle.record.specs.Coded.{nameIn, pairIn, ownIn, meaning}
@@ -22,9 +22,9 @@ module _ (b : Bytes) (h : Held b) where
   pub nameAt-names : (i : ℕ) → i < nameCount b → nameAt b i ≡ nameIn (namesOf b) i
   unfolding nameAt
   nameAt-names i k =
-      let l = length-pairsAt (nameCount b) (drop countsLength b) in
+      let l = length-rowsAt entryLength (nameCount b) (drop countsLength b) in
       let X = drop (bodiesAt b) b in
-      rw (getD-cut (entriesOf b) 0 X i (h .row) (omega arith), getD-pairsAt (nameCount b) 8 b i k, sub-zero, drop-drop)
+      rw (getD-cut (entriesOf b) 0 X i (h .row) (omega arith), getD-rowsAt entryLength (nameCount b) countsLength b i k, sub-zero, drop-drop)
 
   ownAt-names : (o : ℕ) → o ≤ nameCount b → ownAt b o ≡ ownIn (namesOf b) o
   ownAt-names zero k = refl
@@ -32,14 +32,14 @@ module _ (b : Bytes) (h : Held b) where
 
   pairsFrom-names : (at k : ℕ) → Under (nameCount b) (pairsAt k (drop at b)) → pairsFrom b at k ≡ map (pairIn (namesOf b)) (pairsAt k (drop at b))
   unfolding pairsFrom Under
-  pairsFrom-names at zero u = unfold pairsAt in refl
+  pairsFrom-names at zero u = unfold rowsAt in refl
   pairsFrom-names at (suc k) u =
-      let v : Under (nameCount b) ((number b at, number b (at + 2)) ∷ pairsAt k (drop (at + 4) b)) = rw (pairsAt-step k at b) at u in
+      let v : Under (nameCount b) ((number b at, number b (at + 2)) ∷ pairsAt k (drop (at + pairLength) b)) = rw (rowsAt-step pairLength k at b) at u in
       rw (
-        pairsAt-step k at b,
+        rowsAt-step pairLength k at b,
         nameAt-names (number b at) (v .0),
         nameAt-names (number b (at + 2)) (v .1),
-        pairsFrom-names (at + 4) k (v .2),
+        pairsFrom-names (at + pairLength) k (v .2),
       )
 
   pub shown-meaning : shown b ≡ meaning (read b)

@@ -1,5 +1,5 @@
 -- The bytes of the form between: they are the encoding's, and what is read at each place of a buffer of given parts.
-use mathlib.Core.Path.{_≡_, refl, _∙_}
+use mathlib.Core.Path.{_≡_, refl, sym, ap, _∙_}
 use mathlib.Core.List.{List, [], _∷_, _++_, append-assoc, append-nil}
 use Prim.Native.Nat.{ℕ, _+_, _-_, _*_}
 use native.Mathlib.Omega.{arith}
@@ -13,7 +13,7 @@ use Rattle.record.specs.Test.{entriesOf, subgraphOf, translationOf, name
 use Rattle.record.proofs.Words.{length-lePairs, pairsAt-lePairs}
 use Rattle.record.proofs.Entries.{lePairs-spans, length-spans}
 use Rattle.record.proofs.Places.{placesIn, lePairs-places}
-use Rattle.record.specs.Coded.{Coded, lePairs, spans}
+use Rattle.record.specs.Coded.{Coded, lePairs, countsOf, spans, meaning}
 use Rattle.record.proofs.Coded.{coded}
 use Rattle.model.specs.declared.Kind.the-variants.{Subgraph, Translation}
 
@@ -73,6 +73,16 @@ encode-write g =
     let c = coded g in
     rw (contents-parts g, length-parts (c .own) (spans 0 (c .names)) (c .subgraph) (c .translation) (bodies (c .names)), length-spans 0 (c .names))
     (parts-append (c .own) (spans 0 (c .names)) (c .subgraph) (c .translation) (bodies (c .names)) (ending c))
+
+-- the parts of c one behind the other, and zeros, are the encoding of what c means
+pub parts-encode : (c : Coded) (u : ℕ) → coded (meaning c) ≡ c → u ≡ size c
+    → countsOf (length (c .names)) (c .own) (length (c .subgraph)) (length (c .translation))
+    ++ (entries 0 (c .names) ++ (lePairs (c .subgraph) ++ (lePairs (c .translation) ++ (bodies (c .names) ++ replicate (recordLength - u) 0))))
+    ≡ encode (meaning c)
+unfolding write parts
+parts-encode c u e d =
+    rw (d, ← lePairs-spans 0 (c .names), ← length-spans 0 (c .names)) refl
+    ∙ sym (encode-write (meaning c) ∙ ap write e)
 
 -- ------------------------------------------------------------------ the parts of a buffer
 

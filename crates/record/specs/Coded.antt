@@ -36,6 +36,14 @@ unfoldable pub lePairs : List (ℕ × ℕ) → Bytes
 lePairs [] = []
 lePairs (p ∷ ps) = le16 (p .0) ++ (le16 (p .1) ++ lePairs ps)
 
+-- the bytes of the four counts
+abbrev pub countsOf : ℕ → ℕ → ℕ → ℕ → Bytes
+countsOf names own subgraph translation = lePairs ((names, own) ∷ (subgraph, translation) ∷ [])
+
+-- the bytes of a name's entry
+abbrev pub entryOf : ℕ → Bytes → Bytes
+entryOf start name = le16 start ++ le16 (length name)
+
 -- start and length of each name as numbers, the first at `start`
 unfoldable pub spans : ℕ → List Bytes → List (ℕ × ℕ)
 spans start [] = []

@@ -11,12 +11,20 @@ use Rattle.model.specs.declared.Order.{Order}
 use Rattle.model.specs.Bytes.{Bytes, byOrder, compareBytes}
 use Rattle.model.specs.Numbers.{number}
 use Rattle.model.specs.Record.{ascends}
-use Rattle.model.specs.Layout.{recordLength, countsLength, pairLength, entryAt, bodiesAfter, nameCount, ownNumber, pairCount, tableAt, bodiesAt}
+use Rattle.model.specs.Layout.{recordLength, countsLength, entryLength, pairLength, entryAt, bodiesAfter, nameCount, ownNumber, pairCount, tableAt, bodiesAt}
 
--- the first n pairs of numbers of b
-unfoldable pub pairsAt : ℕ → Bytes → List (ℕ × ℕ)
-pairsAt zero b = []
-pairsAt (suc n) b = (number b 0, number b 2) ∷ pairsAt n (drop 4 b)
+-- the first two numbers of each of the n rows of `width` bytes at the front of b
+unfoldable pub rowsAt : ℕ → ℕ → Bytes → List (ℕ × ℕ)
+rowsAt width zero b = []
+rowsAt width (suc n) b = (number b 0, number b 2) ∷ rowsAt width n (drop width b)
+
+-- start and length of n names, by the entries at the front of b
+abbrev pub entriesAt : ℕ → Bytes → List (ℕ × ℕ)
+entriesAt n b = rowsAt entryLength n b
+
+-- the places of n pairs at the front of b
+abbrev pub pairsAt : ℕ → Bytes → List (ℕ × ℕ)
+pairsAt n b = rowsAt pairLength n b
 
 -- every number of the pairs is below n
 unfoldable pub Under : ℕ → List (ℕ × ℕ) → Type 0
@@ -83,7 +91,7 @@ isOne m i = eqb (getD m i 0) 1
 -- ------------------------------------------------------------------ the parts of a buffer
 
 abbrev pub entriesOf : Bytes → List (ℕ × ℕ)
-entriesOf b = pairsAt (nameCount b) (drop countsLength b)
+entriesOf b = entriesAt (nameCount b) (drop countsLength b)
 
 abbrev pub subgraphOf : Bytes → List (ℕ × ℕ)
 subgraphOf b = pairsAt (pairCount Subgraph b) (drop (tableAt Subgraph b) b)
@@ -102,7 +110,7 @@ unfoldable pub tablesOk : Bytes → ℕ → ℕ → ℕ → ℕ → Bool
 tablesOk b n own s t =
     let ps = pairsAt s (drop (entryAt n) b) in
     let qs = pairsAt t (drop (entryAt n + pairLength * s) b) in
-    pairsOk n ps && (pairsOk n qs && (ascends compareBytes (cut (pairsAt n (drop countsLength b)) (drop (bodiesAfter n (s + t)) b)) && every (isUsed own ps qs) n))
+    pairsOk n ps && (pairsOk n qs && (ascends compareBytes (cut (entriesAt n (drop countsLength b)) (drop (bodiesAfter n (s + t)) b)) && every (isUsed own ps qs) n))
 
 unfoldable pub isRecord : Bytes → Bool
 isRecord b =

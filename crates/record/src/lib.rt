@@ -1,11 +1,13 @@
 // Records: the test of a buffer, and where things stand in one.
 //
-// The functions of `validity` take any slice of any length. Those of `layout` and `reader` ask that what they read lies within the slice.
+// The functions of `validity` take any slice of any length. Those of `layout`, `reader` and `writing` ask that what they read or write
+// lies within the slice.
 mod layout;
 mod offsets;
 mod reader;
 mod test;
 mod validity;
+mod writing;
 
 pub use layout::Head;
 pub use layout::Part;
@@ -24,11 +26,9 @@ pub use layout::pair_from;
 pub use layout::pair_to;
 pub use layout::part_of;
 pub use layout::table_at;
-pub use offsets::ENTRY_LENGTH;
 pub use offsets::PAIR_LENGTH;
 pub use offsets::RECORD_LENGTH;
 pub use offsets::empty_record;
-pub use offsets::entry_at;
 pub use reader::Reader;
 pub use reader::head;
 pub use reader::head_at;
@@ -38,3 +38,6 @@ pub use reader::part_at;
 pub use validity::fault;
 pub use validity::fault_of_both;
 pub use validity::is_record;
+pub use writing::write_counts;
+pub use writing::write_entry;
+pub use writing::write_pair;

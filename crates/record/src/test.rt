@@ -12,12 +12,12 @@ ghost use lib.ListN.{length, drop, replicate};
 ghost use Rattle.model.specs.Bytes.{compareBytes};
 ghost use Rattle.model.specs.Record.{ascends};
 ghost use Rattle.model.specs.Layout.{recordLength, countsLength, pairLength, entryAt};
-ghost use Rattle.record.specs.Test.{pairsAt, Under, bodyEnd, cut, isLess, pairLess, pairOk, pairsOk, isUsed, every, marks, markOwn, isOne};
+ghost use Rattle.record.specs.Test.{entriesAt, pairsAt, Under, bodyEnd, cut, isLess, pairLess, pairOk, pairsOk, isUsed, every, marks, markOwn, isOne};
 
 // Where the bodies of n names end, counted from the first, if the entries leave no gap and no name is long; else a record's length.
 pub(crate) fn body_end(b: &[u8], n: usize) -> usize
     requires { ⌜ (n ≤ 512) × (entryAt n ≤ length (now b)) ⌝ }
-    ensures { λ r. ⌜ r ≡ bodyEnd 0 (pairsAt n (drop countsLength (now (b .entry)))) ⌝ }
+    ensures { λ r. ⌜ r ≡ bodyEnd 0 (entriesAt n (drop countsLength (now (b .entry)))) ⌝ }
 {
     let mut at = 0;
     let mut p = COUNTS_LENGTH;
@@ -105,7 +105,7 @@ fn is_less(a: &[u8], b: &[u8]) -> bool
 // Whether the n names whose bodies start at `bodies` ascend.
 pub(crate) fn names_ascend(b: &[u8], n: usize, bodies: usize) -> bool
     requires { ⌜ (n ≤ 512) × (entryAt n ≤ length (now b)) × (bodies ≤ recordLength) ⌝ }
-    ensures { λ r. ⌜ r ≡ ascends compareBytes (cut (pairsAt n (drop countsLength (now (b .entry)))) (drop bodies (now (b .entry)))) ⌝ }
+    ensures { λ r. ⌜ r ≡ ascends compareBytes (cut (entriesAt n (drop countsLength (now (b .entry)))) (drop bodies (now (b .entry)))) ⌝ }
 {
     let mut p = COUNTS_LENGTH;
     let mut q = bodies;

@@ -12,12 +12,12 @@ use lib.ListN.{length, take, drop, getD, set, length-append, length-drop}
 use lib.Seq.{take-suc, take-suc-set, take-all, take-append-seam, drop-append-seam}
 use Rattle.model.specs.Bytes.{Bytes, compareNumbers, compareBytes, put}
 use Rattle.model.specs.Record.{GraphName, names, bodies}
-use Rattle.model.specs.Layout.{countsLength, bodyStart, bodyLength, nameCount, pairCount, shown, decode, bodiesAt}
+use Rattle.model.specs.Layout.{countsLength, entryLength, bodyStart, bodyLength, nameCount, pairCount, shown, decode, bodiesAt}
 use Rattle.model.specs.declared.Kind.the-variants.{Subgraph, Translation}
 use Rattle.model.specs.Opening.{isSome}
 use Rattle.record.specs.Test.{pairsOk, entriesOf, subgraphOf, translationOf, namesOf}
 use Rattle.record.specs.Coded.{spans, pairIn}
-use Rattle.record.proofs.Words.{length-pairsAt, getD-pairsAt}
+use Rattle.record.proofs.Words.{length-rowsAt, getD-rowsAt}
 use Rattle.record.proofs.Entries.{Cut, cut-holds}
 use Rattle.record.proofs.Held.{Held}
 use Rattle.record.proofs.Places.{comparePlaces}
@@ -56,10 +56,10 @@ numbers-all ps n i a l h k e = let d : i ≡ n = omega arith in rw d at e ∙ ta
 
 -- the entries, as the code reads them
 pub entry-read : (b : Bytes) (i : ℕ) → i < nameCount b → getD (entriesOf b) i (0, 0) ≡ (bodyStart b i, bodyLength b i)
-entry-read b i h = getD-pairsAt (nameCount b) countsLength b i h
+entry-read b i h = getD-rowsAt entryLength (nameCount b) countsLength b i h
 
 pub length-entriesOf : (b : Bytes) → length (entriesOf b) ≡ nameCount b
-length-entriesOf b = length-pairsAt (nameCount b) (drop 8 b)
+length-entriesOf b = length-rowsAt entryLength (nameCount b) (drop countsLength b)
 
 -- ------------------------------------------------------------------ bodies
 

@@ -1,65 +1,24 @@
 -- The turns of the loops that write a record: what is still to be written, written behind what was, is the whole.
-use mathlib.Core.Path.{_≡_, refl, sym, ap, _∙_}
-use mathlib.Core.List.{List, [], _∷_, _++_, map}
-use Prim.Native.Nat.{ℕ, suc, _+_, _-_, _*_, _%_, _≤_, _<_}
+use mathlib.Core.Path.{_≡_, sym, ap, _∙_}
+use mathlib.Core.List.{List, [], _∷_, map}
+use Prim.Native.Nat.{ℕ, suc, _+_, _-_, _*_, _/_, _%_, _≤_, _<_}
 use native.Mathlib.Omega.{arith}
+use native.Mathlib.Nat.{sub-zero}
 use native.Mathlib.Numerals.{add-one}
-use lib.ListN.{length, set, getD, replicate, length-append, length-map, length-replicate}
+use lib.ListN.{length, drop, set, getD, replicate, length-append, length-take, length-map, length-replicate}
 use lib.Seq.{slice, slice-cons, slice-empty, length-slice}
-use Rattle.model.specs.Layout.{entryLength, pairLength}
+use Rattle.model.specs.Layout.{entryLength, pairLength, entries}
 use Rattle.model.specs.Bytes.{Bytes, put}
-use Rattle.model.specs.Numbers.{le16}
 use Rattle.model.specs.Record.{bodies}
-use Rattle.record.specs.Coded.{lePairs}
+use Rattle.record.specs.Coded.{lePairs, entryOf}
 use Rattle.record.proofs.Words.{length-lePairs}
-use Rattle.text.proofs.Put.{put-none, put-one, put-append, length-put}
-use Rattle.tables.specs.Tables.{bodyIn, placesOf, entry, entriesFrom}
+use Rattle.record.proofs.Written.{pairs-cons, entries-cons, length-entry, length-entries}
+use Rattle.text.proofs.Put.{put-none, put-one, put-append, put-rest, put-whole}
+use Rattle.tables.specs.Tables.{bodyIn, placesOf}
 
--- the first part of a text is written, and the rest behind it
-pub put-rest : (l l₁ : Bytes) (p q : ℕ) (w rest : Bytes) → p + (length w + length rest) ≤ length l → l₁ ≡ put l p w → q ≡ p + length w → put l₁ q rest ≡ put l p (w ++ rest)
-put-rest l l₁ p q w rest h a b = rw (a, b) (put-append l p w rest h)
-
--- two numbers, one behind the other
-module _ (l l₁ l₂ : Bytes) (p q u v : ℕ) (h : p + 4 ≤ length l) (a : l₁ ≡ put l p (le16 u)) (b : q ≡ p + 2) (c : l₂ ≡ put l₁ q (le16 v)) where
-  pub entry-written : l₂ ≡ put l p (entry u v)
-  entry-written = c ∙ put-rest l l₁ p q (le16 u) (le16 v) (omega arith) a b
-
-  pub pair-written : l₂ ≡ put l p (lePairs ((u, v) ∷ []))
-  unfolding lePairs
-  pair-written = entry-written
-
-pub pairs-cons : (p : ℕ × ℕ) (ps : List (ℕ × ℕ)) → lePairs (p ∷ ps) ≡ lePairs (p ∷ []) ++ lePairs ps
-unfolding lePairs
-pairs-cons p ps = refl
-
--- the four counts
-pub counts-written : (l l₁ l₂ l₃ l₄ : Bytes) (p q r n o s t : ℕ) → 8 ≤ length l → l₁ ≡ put l 0 (le16 n) → p ≡ 2 → l₂ ≡ put l₁ p (le16 o) → q ≡ p + 2
-    → l₃ ≡ put l₂ q (le16 s) → r ≡ q + 2 → l₄ ≡ put l₃ r (le16 t) → l₄ ≡ put l 0 (lePairs ((n, o) ∷ (s, t) ∷ []))
-counts-written l l₁ l₂ l₃ l₄ p q r n o s t h a b c d e f g =
-    let k₁ = length-lePairs ((n, o) ∷ []) in
-    let k₂ = length-lePairs ((s, t) ∷ []) in
-    let w = pair-written l l₁ l₂ 0 p n o (omega arith) a b c in
-    let long = ap length w ∙ length-put l 0 (lePairs ((n, o) ∷ [])) (omega arith) in
-    pair-written l₂ l₃ l₄ q r s t (omega arith) e f g ∙ put-rest l l₂ 0 q (lePairs ((n, o) ∷ [])) (lePairs ((s, t) ∷ [])) (omega arith) w (omega arith)
-    ∙ ap (put l 0) (sym (pairs-cons (n, o) ((s, t) ∷ [])))
-
--- nothing is left
-pub pairs-none : lePairs [] ≡ []
-unfolding lePairs
-pairs-none = refl
-
-pub entries-none : (start : ℕ) → entriesFrom start [] ≡ []
-unfolding entriesFrom
-entries-none start = refl
-
-pub length-entries : (start : ℕ) (rs : List ℕ) → length (entriesFrom start rs) ≡ entryLength * length rs
-unfolding entriesFrom
-length-entries start [] = refl
-length-entries start (r ∷ rs) = omega (arith, length-entries (start + r % 65536) rs)
-
-entries-cons : (start r : ℕ) (rs : List ℕ) → entriesFrom start (r ∷ rs) ≡ entry start (r % 65536) ++ entriesFrom (start + r % 65536) rs
-unfolding entriesFrom
-entries-cons start r rs = refl
+-- a table's number has no more than two bytes for the length
+pub body-short : (pool : Bytes) (r : ℕ) → length (bodyIn pool r) < 65536
+body-short pool r = rw (length-take (r % 65536) (drop (r / 65536) pool)) (omega arith)
 
 module _ (a : List ℕ) (n i : ℕ) (fits : n ≤ length a) where
   pub rest-empty : i ≤ n → n ≤ i → slice i n a ≡ []
@@ -82,13 +41,15 @@ module _ (a : List ℕ) (n i : ℕ) (fits : n ≤ length a) where
           let e = length-lePairs rest ∙ ap (λ (k : ℕ). pairLength * k) (length-map (slice (i + 1) n a) placesOf ∙ rest-length) in
           put-rest l l₁ p q (lePairs (x ∷ [])) (lePairs rest) (omega arith) b (omega arith) ∙ rw rest-cons (ap (put l p) (sym (pairs-cons x rest)))
 
-      pub entries-again : p + entryLength * (n - i) ≤ length l → (start : ℕ) → l₁ ≡ put l p (entry start (getD a i 0 % 65536)) → q ≡ p + entryLength
-          → put l₁ q (entriesFrom (start + getD a i 0 % 65536) (slice (i + 1) n a)) ≡ put l p (entriesFrom start (slice i n a))
-      entries-again room start b c =
-          let r = getD a i 0 in
-          let e = length-entries (start + r % 65536) (slice (i + 1) n a) ∙ ap (λ (k : ℕ). entryLength * k) rest-length in
-          put-rest l l₁ p q (entry start (r % 65536)) (entriesFrom (start + r % 65536) (slice (i + 1) n a)) (omega arith) b (omega arith)
-          ∙ rw rest-cons (ap (put l p) (sym (entries-cons start r (slice (i + 1) n a))))
+      pub entries-again : (pool : Bytes) → p + entryLength * (n - i) ≤ length l → (start : ℕ) → l₁ ≡ put l p (entryOf start (bodyIn pool (getD a i 0))) → q ≡ p + entryLength
+          → put l₁ q (entries (start + length (bodyIn pool (getD a i 0))) (map (bodyIn pool) (slice (i + 1) n a))) ≡ put l p (entries start (map (bodyIn pool) (slice i n a)))
+      entries-again pool room start b c =
+          let name = bodyIn pool (getD a i 0) in
+          let rest = map (bodyIn pool) (slice (i + 1) n a) in
+          let d = length-entry start name in
+          let e = length-entries (start + length name) rest ∙ ap (λ (k : ℕ). entryLength * k) (length-map (slice (i + 1) n a) (bodyIn pool) ∙ rest-length) in
+          put-rest l l₁ p q (entryOf start name) (entries (start + length name) rest) (omega arith) b (omega arith)
+          ∙ rw rest-cons (ap (put l p) (sym (entries-cons start name rest)))
 
     -- the bodies
     pub bodies-length : (pool : Bytes)
@@ -111,3 +72,7 @@ zeros-again l i m e h =
 
 pub zeros-end : (l : Bytes) (i m : ℕ) → m ≤ i → put l i (replicate (m - i) 0) ≡ l
 zeros-end l i m h = let d : m - i ≡ 0 = omega arith in rw d (put-none l i)
+
+-- a buffer cleared from its front on
+pub cleared : (b : Bytes) (n : ℕ) → length b ≡ n → put b 0 (replicate (length b - 0) 0) ≡ replicate n 0
+cleared b n e = rw (sub-zero (length b)) (put-whole b (replicate (length b) 0) (length-replicate {A = ℕ} (length b) 0) ∙ ap (λ (k : ℕ). replicate {A = ℕ} k 0) e)

@@ -2,12 +2,11 @@
 -- numbers, first place * 65536 + second place.
 use mathlib.Core.Path.{_≡_}
 use mathlib.Core.Bool.{Bool, false, cond}
-use mathlib.Core.List.{List, [], _∷_, _++_, map, List·Memᴰ}
+use mathlib.Core.List.{List, map, List·Memᴰ}
 use Prim.Native.Nat.{ℕ, _+_, _/_, _%_, _≤_, _<_}
 use lib.ListN.{length, take, drop}
 use lib.Dec.{ltb}
 use Rattle.model.specs.Bytes.{Bytes, compareNumbers, compareBytes, sameBytes}
-use Rattle.model.specs.Numbers.{le16}
 use Rattle.model.specs.Record.{GraphName, insert, withPair, names, anyLong, bodies}
 use Rattle.model.specs.declared.Kind.{Kind}
 use Rattle.model.specs.Statements.{Ascending}
@@ -133,12 +132,3 @@ pub record Storable (t : Tables) (own : ℕ) : Type 0 where
   pub subgraph : t .sizes .subgraph ≤ 1024
   pub translation : t .sizes .translation ≤ 1024
   pub used : names (meaning (readOut t own)) ≡ tableNames t
-
--- the bytes of a name's entry
-abbrev pub entry : ℕ → ℕ → Bytes
-entry start size = le16 start ++ le16 size
-
--- the bytes of the entries of a table's names, whose bodies stand one behind the other from `start` on
-unfoldable pub entriesFrom : ℕ → List ℕ → Bytes
-entriesFrom start [] = []
-entriesFrom start (r ∷ rs) = entry start (r % 65536) ++ entriesFrom (start + r % 65536) rs

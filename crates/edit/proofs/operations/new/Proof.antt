@@ -1,7 +1,9 @@
 -- By the two tests.
 use mathlib.Core.Path.{sym, ap, _∙_}
+use Rattle.model.specs.Layout.{recordLength}
 use Rattle.model.specs.Outcome.{Outcome}
-use Rattle.edit.proofs.Alone.{new-wrong, new-long, new-short, cleared}
+use Rattle.tables.proofs.Writing.{cleared}
+use Rattle.edit.proofs.Alone.{new-wrong, new-long, new-short}
 use borrow.Author.Needs.{needs}
 use Rattle.edit.proofs.operations.new.Statement.{statement}
 use Rattle.edit.proofs.operations.new.Tie as tie
@@ -25,7 +27,7 @@ returns-2 c =
     let a = s .args in
     let long = c .before .before .before .before .before .if1 .left in
     let e = new-long (a .name .now) (a .buffer .now) long (c .before .before .before .before .if2 .taken) in
-    (sym (ap (λ (o : Outcome). o .number) e), cleared (a .buffer .now) _ long (c .before .before .clear .ensures) ∙ sym (ap (λ (o : Outcome). o .buffer) e))
+    (sym (ap (λ (o : Outcome). o .number) e), c .before .before .clear .ensures ∙ cleared (a .buffer .now) recordLength long ∙ sym (ap (λ (o : Outcome). o .buffer) e))
 
 write-name-requires : tie.Need-write-name-requires
 write-name-requires c κs = search needs

@@ -9,7 +9,7 @@ use Rattle.model.specs.Opening.{faultOf}
 use Rattle.model.specs.Written.{within}
 use Rattle.record.proofs.Opening.{asked-shown, refused-asked}
 use Rattle.export.specs.Texts.{headerLines}
-use Rattle.export.proofs.Opened.{opened}
+use Rattle.export.proofs.Tested.{record-in}
 use Rattle.export.proofs.Answering.{refused-answers, no-room, written-answers}
 use borrow.Author.Needs.{needs}
 use Rattle.export.proofs.header.write_lines.Statement.{statement}
@@ -38,7 +38,7 @@ slice-aggregate-append-lines : tie.Need-slice-aggregate-append-lines
 slice-aggregate-append-lines c = search needs
 
 append-lines-requires : tie.Need-append-lines-requires
-append-lines-requires c κs = opened _ (clear (c .before))
+append-lines-requires c κs = record-in _ (clear (c .before))
 
 returns-2 : tie.Need-returns-2
 returns-2 c =
@@ -48,7 +48,7 @@ returns-2 c =
     no-room _ (a .out .now) (lines (e .before) (shown (a .b .now))) (ap (within _) (asked-shown (a .b .now) (lines (e .before)) (clear e))) (m .append-lines .ensures) (c .if2 .taken)
 
 append-lines-requires-2 : tie.Need-append-lines-requires-2
-append-lines-requires-2 c κs = opened _ (clear (c .before .before .before .before .before))
+append-lines-requires-2 c κs = record-in _ (clear (c .before .before .before .before .before))
 
 same-length : tie.Need-same-length
 same-length c = search needs

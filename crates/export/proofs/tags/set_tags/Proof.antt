@@ -8,7 +8,7 @@ use Rattle.model.specs.Layout.{shown}
 use Rattle.model.specs.Opening.{faultOf}
 use Rattle.model.specs.Written.{Tags, tagsOf, allWithin, fits, tagsWritten}
 use Rattle.record.proofs.Opening.{asked-shown, refused-asked}
-use Rattle.export.proofs.Opened.{opened}
+use Rattle.export.proofs.Tested.{record-in}
 use Rattle.export.proofs.Answering.{refused-tags, wrote-tags, tags-not, tags-all, each-fits}
 use borrow.Author.Needs.{needs}
 use Rattle.export.proofs.tags.set_tags.Statement.{statement}
@@ -39,7 +39,7 @@ returns c =
     (ap (allWithin _ _ _) (sym (refused-asked (a .b .now) tagsOf (k .fault .result) (k .fault .ensures) (c .if1 .taken))))
 
 all-fit-requires : tie.Need-all-fit-requires
-all-fit-requires c κs = let s = start c in (opened _ (clear c), omega (arith, s .good), omega (arith, s .good), omega (arith, s .good))
+all-fit-requires c κs = let s = start c in (record-in _ (clear c), omega (arith, s .good), omega (arith, s .good), omega (arith, s .good))
 
 returns-2 : tie.Need-returns-2
 unfolding tagsWritten
@@ -51,13 +51,13 @@ returns-2 c =
     (ap (allWithin _ _ _) (asked-shown (a .b .now) tagsOf (clear e)) ∙ tags-not (values e) _ _ _ (m .all-fit .result) (m .all-fit .ensures) (not-true _ (c .if2 .taken)))
 
 write-name-requires : tie.Need-write-name-requires
-write-name-requires c κs = let d = c .before in (opened _ (clear (d .before .before)), each d .0)
+write-name-requires c κs = let d = c .before in (record-in _ (clear (d .before .before)), each d .0)
 
 write-relations-requires : tie.Need-write-relations-requires
-write-relations-requires c κs = let d = c .before .before .before .before .before in (opened _ (clear (d .before .before)), each d .1)
+write-relations-requires c κs = let d = c .before .before .before .before .before in (record-in _ (clear (d .before .before)), each d .1)
 
 write-relations-requires-2 : tie.Need-write-relations-requires-2
-write-relations-requires-2 c κs = let d = c .before .before .before .before .before .before .before .before .before in (opened _ (clear (d .before .before)), each d .2)
+write-relations-requires-2 c κs = let d = c .before .before .before .before .before .before .before .before .before in (record-in _ (clear (d .before .before)), each d .2)
 
 same-length : tie.Need-same-length
 same-length c = search needs

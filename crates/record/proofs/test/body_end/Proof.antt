@@ -2,16 +2,16 @@
 use mathlib.Core.Path.{_≡_, refl, sym, _∙_}
 use Prim.Native.Nat.{_+_, _*_, _≤_}
 use lib.ListN.{drop}
-use Rattle.record.specs.Test.{pairsAt, bodyEnd}
+use Rattle.record.specs.Test.{entriesAt, bodyEnd}
 use Rattle.record.proofs.Steps.{bodyEnd-end, bodyEnd-gap, bodyEnd-long, bodyEnd-more}
 use native.Mathlib.Omega.{arith}
 use borrow.Author.Needs.{needs}
 use Rattle.record.proofs.test.body_end.Statement.{statement}
 use Rattle.record.proofs.test.body_end.Tie as tie
-use Rattle.model.specs.Layout.{countsLength}
+use Rattle.model.specs.Layout.{countsLength, entryLength, entryAt}
 
 abbrev Inv-loop : tie.InvT-loop
-Inv-loop b n at₀ p₀ left₀ at p left = (p + 4 * left ≡ 8 + 4 * n) × (left ≤ n) × (at + 256 * left ≤ 256 * n) × (bodyEnd 0 (pairsAt n (drop countsLength b)) ≡ bodyEnd at (pairsAt left (drop p b)))
+Inv-loop b n at₀ p₀ left₀ at p left = (p + entryLength * left ≡ entryAt n) × (left ≤ n) × (at + 256 * left ≤ 256 * n) × (bodyEnd 0 (entriesAt n (drop countsLength b)) ≡ bodyEnd at (entriesAt left (drop p b)))
 
 abbrev μ-loop : tie.MeasureT-loop
 μ-loop b n at₀ p₀ left₀ at p left = left

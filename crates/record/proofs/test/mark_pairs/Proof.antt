@@ -2,6 +2,7 @@
 use mathlib.Core.Path.{_≡_, refl, sym, _∙_}
 use Prim.Native.Nat.{_+_, _*_, _<_, _≤_}
 use lib.ListN.{length, drop, length-set}
+use Rattle.model.specs.Layout.{pairLength}
 use Rattle.record.specs.Test.{pairsAt, Under, marks}
 use Rattle.record.proofs.Steps.{marks-end, marks-more, under-more}
 use native.Mathlib.Omega.{arith}
@@ -10,7 +11,7 @@ use Rattle.record.proofs.test.mark_pairs.Statement.{statement}
 use Rattle.record.proofs.test.mark_pairs.Tie as tie
 
 abbrev Inv-loop : tie.InvT-loop
-Inv-loop used₀ b at count p₀ left₀ used p left = (p + 4 * left ≡ at + 4 * count) × (left ≤ count) × (length used ≡ length used₀) × Under (length used₀) (pairsAt left (drop p b)) × (marks (pairsAt left (drop p b)) used ≡ marks (pairsAt count (drop at b)) used₀)
+Inv-loop used₀ b at count p₀ left₀ used p left = (p + pairLength * left ≡ at + pairLength * count) × (left ≤ count) × (length used ≡ length used₀) × Under (length used₀) (pairsAt left (drop p b)) × (marks (pairsAt left (drop p b)) used ≡ marks (pairsAt count (drop at b)) used₀)
 
 abbrev μ-loop : tie.MeasureT-loop
 μ-loop used₀ b at count p₀ left₀ used p left = left

@@ -4,6 +4,7 @@ use Prim.Native.Nat.{_+_, _*_, _≤_, _-_}
 use mathlib.Core.Bool.{_&&_}
 use Rattle.model.specs.Bytes.{compareBytes}
 use Rattle.model.specs.Record.{ascends}
+use Rattle.model.specs.Layout.{countsLength, entryLength, entryAt}
 use Rattle.record.proofs.Steps.{namesLeft, ascends-few, ascends-more}
 use borrow.Author.Tests.{not-true, not-false}
 use borrow.Author.Needs.{needs}
@@ -11,7 +12,7 @@ use Rattle.record.proofs.test.names_ascend.Statement.{statement}
 use Rattle.record.proofs.test.names_ascend.Tie as tie
 
 abbrev Inv-loop : tie.InvT-loop
-Inv-loop b n bodies p₀ q₀ left₀ p q left = (p + 4 * left ≡ 8 + 4 * n) × (left ≤ n) × (q + 65536 * left ≤ bodies + 65536 * n) × (ascends compareBytes (namesLeft n 8 bodies b) ≡ ascends compareBytes (namesLeft left p q b))
+Inv-loop b n bodies p₀ q₀ left₀ p q left = (p + entryLength * left ≡ entryAt n) × (left ≤ n) × (q + 65536 * left ≤ bodies + 65536 * n) × (ascends compareBytes (namesLeft n countsLength bodies b) ≡ ascends compareBytes (namesLeft left p q b))
 
 abbrev μ-loop : tie.MeasureT-loop
 μ-loop b n bodies p₀ q₀ left₀ p q left = left
@@ -19,7 +20,7 @@ abbrev μ-loop : tie.MeasureT-loop
 -- the definition at the two names read
 at-names : (c : tie.After-is-less Inv-loop μ-loop)
     → ascends compareBytes (namesLeft (c .before .before .before .before .before .before .loop .left) (c .before .before .before .before .before .before .loop .p) (c .before .before .before .before .before .before .loop .q) (c .before .before .before .before .before .before .before .before .args .b .now))
-    ≡ (c .is-less .result && ascends compareBytes (namesLeft (c .before .before .before .before .before .before .loop .left - 1) (c .before .before .before .before .before .before .loop .p + 4) (c .before .before .before .before .before .before .loop .q + c .before .before .before .before .read16 .result) (c .before .before .before .before .before .before .before .before .args .b .now)))
+    ≡ (c .is-less .result && ascends compareBytes (namesLeft (c .before .before .before .before .before .before .loop .left - 1) (c .before .before .before .before .before .before .loop .p + entryLength) (c .before .before .before .before .before .before .loop .q + c .before .before .before .before .read16 .result) (c .before .before .before .before .before .before .before .before .args .b .now)))
 at-names c =
     let l = c .before .before .before .before .before .before in
     let s = l .loop in

@@ -2,6 +2,7 @@
 use mathlib.Core.Path.{_≡_, refl, sym, _∙_}
 use Prim.Native.Nat.{_+_, _*_, _≤_}
 use lib.ListN.{drop}
+use Rattle.model.specs.Layout.{pairLength}
 use Rattle.record.specs.Test.{pairsAt, pairsOk}
 use Rattle.record.proofs.Steps.{pairsOk-end, pairsOk-more}
 use borrow.Author.Tests.{not-true, not-false}
@@ -10,7 +11,7 @@ use Rattle.record.proofs.test.pairs_ok.Statement.{statement}
 use Rattle.record.proofs.test.pairs_ok.Tie as tie
 
 abbrev Inv-loop : tie.InvT-loop
-Inv-loop b at count n p₀ left₀ p left = (p + 4 * left ≡ at + 4 * count) × (left ≤ count) × (pairsOk n (pairsAt count (drop at b)) ≡ pairsOk n (pairsAt left (drop p b)))
+Inv-loop b at count n p₀ left₀ p left = (p + pairLength * left ≡ at + pairLength * count) × (left ≤ count) × (pairsOk n (pairsAt count (drop at b)) ≡ pairsOk n (pairsAt left (drop p b)))
 
 abbrev μ-loop : tie.MeasureT-loop
 μ-loop b at count n p₀ left₀ p left = left

@@ -4,7 +4,7 @@ use Prim.Native.Nat.{ℕ, _+_, _-_, _*_, _≤_}
 use lib.ListN.{length, take, drop, length-set}
 use Rattle.record.specs.Test.{pairsAt}
 use Rattle.model.specs.Layout.{recordLength, pairLength, pairCount, tableAt}
-use Rattle.record.proofs.Words.{length-pairsAt, getD-pairsAt}
+use Rattle.record.proofs.Words.{length-rowsAt, getD-rowsAt}
 use Rattle.tables.specs.Tables.{pairsIn}
 use Rattle.tables.specs.Loading.{pairsOfKind}
 use Rattle.tables.proofs.Records.{is-held, pair-inside}
@@ -86,7 +86,7 @@ loop-again c =
     let u = c .before .pair-from .ensures in
     let v = c .pair-to .ensures in (
       omega (arith, t),
-      numbers-turn (pairsAt (n .result) (drop at b)) (l .loop .i) _ _ (l .loop .pairs) (rw (length-pairsAt (n .result) (drop at b)) t) (omega (arith, s .pre .1, l .loop .inv .2, t, n .ensures .0)) (getD-pairsAt (n .result) at b (l .loop .i) t ∙ sym (ap₂ (λ (x y : ℕ). (x, y)) (u .0) (v .0))) (v .1) (l .loop .inv .1),
+      numbers-turn (pairsAt (n .result) (drop at b)) (l .loop .i) _ _ (l .loop .pairs) (rw (length-rowsAt pairLength (n .result) (drop at b)) t) (omega (arith, s .pre .1, l .loop .inv .2, t, n .ensures .0)) (getD-rowsAt pairLength (n .result) at b (l .loop .i) t ∙ sym (ap₂ (λ (x y : ℕ). (x, y)) (u .0) (v .0))) (v .1) (l .loop .inv .1),
       length-set (l .loop .pairs) (l .loop .i) _ ∙ l .loop .inv .2,
     )
 
@@ -101,7 +101,7 @@ returns c =
     let k = s .args .kind in
     let n = l .before .before .pair-count .ensures .0 in
     let at = l .before .table-at .ensures .0 in
-    numbers-all (pairsOfKind k b) (pairCount k b) (l .loop .i) (l .loop .pairs) (length-pairsAt (pairCount k b) (drop (tableAt k b) b)) (omega (arith, l .loop .inv .0, n)) (omega (arith, c .loop-test .left, n)) (l .loop .inv .1 ∙ ap₂ (λ (x y : ℕ). take (l .loop .i) (pairsAt x (drop y b))) n at)
+    numbers-all (pairsOfKind k b) (pairCount k b) (l .loop .i) (l .loop .pairs) (length-rowsAt pairLength (pairCount k b) (drop (tableAt k b) b)) (omega (arith, l .loop .inv .0, n)) (omega (arith, c .loop-test .left, n)) (l .loop .inv .1 ∙ ap₂ (λ (x y : ℕ). take (l .loop .i) (pairsAt x (drop y b))) n at)
 
 pub load-pairs-spec : {M : Type 1} → statement M
 load-pairs-spec =

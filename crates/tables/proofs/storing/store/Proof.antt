@@ -10,8 +10,8 @@ use borrow.Author.Needs.{needs}
 use Rattle.tables.proofs.storing.store.Statement.{statement}
 use Rattle.tables.proofs.storing.store.Tie as tie
 
-store-counts-requires : tie.Need-store-counts-requires
-store-counts-requires c κs = search needs
+write-counts-requires : tie.Need-write-counts-requires
+write-counts-requires c κs = search needs
 
 store-entries-requires : tie.Need-store-entries-requires
 store-entries-requires c κs = search needs
@@ -28,7 +28,7 @@ store-bodies-requires c κs = search needs
 clear-requires : tie.Need-clear-requires
 clear-requires c κs =
     let s = c .before .before .before .before .before .before .before .before .before .before .before .before .before .before .before .before .before .before .before .before .before .before .before .before .before .before in
-    let h = c .before .before .before .before .before .before .before .before .before .before .before .before .before .before .before .before .before .before .before .store-counts in
+    let h = c .before .before .before .before .before .before .before .before .before .before .before .before .before .before .before .before .before .before .before .write-counts in
     let e = c .before .before .before .before .before .before .before .before .before .before .before .before .before .before .before .store-entries in
     let u = c .before .before .before .before .before .before .before .before .before .before .before .store-pairs in
     let v = c .before .before .before .before .before .before .before .store-pairs2 in
@@ -43,7 +43,7 @@ returns : tie.Need-returns
 returns c =
     let s = c .before .before .before .before .before .before .before .before .before .before .before .before .before .before .before .before .before .before .before .before .before .before .before .before .before .before .before .before .before in
     let a = s .args in
-    let h = c .before .before .before .before .before .before .before .before .before .before .before .before .before .before .before .before .before .before .before .before .before .before .store-counts in
+    let h = c .before .before .before .before .before .before .before .before .before .before .before .before .before .before .before .before .before .before .before .before .before .before .write-counts in
     let e = c .before .before .before .before .before .before .before .before .before .before .before .before .before .before .before .before .before .before .store-entries in
     let u = c .before .before .before .before .before .before .before .before .before .before .before .before .before .before .store-pairs in
     let v = c .before .before .before .before .before .before .before .before .before .before .store-pairs2 in
@@ -59,7 +59,7 @@ pub store-spec : {M : Type 1} → statement M
 store-spec =
     tie.close
     (tie.spec
-    store-counts-requires
+    write-counts-requires
     store-entries-requires
     store-pairs-requires
     store-pairs-requires-2

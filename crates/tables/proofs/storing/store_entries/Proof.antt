@@ -1,39 +1,41 @@
 -- The entries left, written behind what was, are all of them written at the start.
 use mathlib.Core.Path.{_≡_, refl, sym, ap, _∙_}
 use Prim.Native.Nat.{ℕ, _+_, _-_, _*_, _≤_}
-use mathlib.Core.List.{List}
-use lib.ListN.{length, take}
+use mathlib.Core.List.{List, map}
+use lib.ListN.{length, getD}
 use lib.Seq.{slice}
-use Rattle.model.specs.Layout.{entryLength}
-use Rattle.model.specs.Bytes.{put}
+use Rattle.model.specs.Layout.{entryLength, entries}
+use Rattle.model.specs.Bytes.{Bytes, put}
 use Rattle.text.proofs.Put.{put-none}
-use Rattle.tables.specs.Tables.{entriesFrom}
-use Rattle.tables.proofs.Writing.{entries-none, rest-empty, entries-again}
+use Rattle.record.specs.Coded.{entryOf}
+use Rattle.record.proofs.Written.{entries-none}
+use Rattle.tables.specs.Tables.{bodyIn, namesIn}
+use Rattle.tables.proofs.Writing.{rest-empty, body-short, entries-again}
 use borrow.Author.Needs.{needs}
 use native.Mathlib.Omega.{arith}
 use Rattle.tables.proofs.storing.store_entries.Statement.{statement}
 use Rattle.tables.proofs.storing.store_entries.Tie as tie
 
 abbrev Inv-loop : tie.InvT-loop
-Inv-loop buffer₀ at refs n start₀ p₀ i₀ buffer start p i = (i ≤ n) × (p ≡ at + entryLength * i) × (start ≤ 65536 * i) × (length buffer ≡ length buffer₀) × (put buffer p (entriesFrom start (slice i n refs)) ≡ put buffer₀ at (entriesFrom 0 (take n refs)))
+Inv-loop buffer₀ at refs pool n start₀ p₀ i₀ buffer start p i = (i ≤ n) × (p ≡ at + entryLength * i) × (start ≤ 65536 * i) × (length buffer ≡ length buffer₀) × (put buffer p (entries start (map (bodyIn pool) (slice i n refs))) ≡ put buffer₀ at (entries 0 (namesIn pool n refs)))
 
 abbrev μ-loop : tie.MeasureT-loop
-μ-loop buffer₀ at refs n start₀ p₀ i₀ buffer start p i = n - i
+μ-loop buffer₀ at refs pool n start₀ p₀ i₀ buffer start p i = n - i
 
 loop-holds : tie.Need-loop-holds Inv-loop μ-loop
 loop-holds c = (search needs, search needs, search needs, refl, refl)
 
-mul-size : tie.Need-mul-size Inv-loop μ-loop
-mul-size c = search needs
+mul-body : tie.Need-mul-body Inv-loop μ-loop
+mul-body c = search needs
 
-shared-slice-read-size : tie.Need-shared-slice-read-size Inv-loop μ-loop
-shared-slice-read-size c = search needs
+shared-slice-read-body : tie.Need-shared-slice-read-body Inv-loop μ-loop
+shared-slice-read-body c = search needs
 
-cast-size : tie.Need-cast-size Inv-loop μ-loop
-cast-size c = omega arith
+body-requires : tie.Need-body-requires Inv-loop μ-loop
+body-requires c κs = search needs
 
-store-entry-requires : tie.Need-store-entry-requires Inv-loop μ-loop
-store-entry-requires c κs = search needs
+write-entry-requires : tie.Need-write-entry-requires Inv-loop μ-loop
+write-entry-requires c κs = search needs
 
 add-start : tie.Need-add-start Inv-loop μ-loop
 add-start c = search needs
@@ -46,15 +48,18 @@ loop-less c = search needs
 
 loop-again : tie.Need-loop-again Inv-loop μ-loop
 loop-again c =
-    let l = c .before .before .before .before .before .before in
+    let l = c .before .before .before .before .before .before .before in
     let s = l .loop in
-    let a = l .before .before .before .args in
-    let u = c .before .before .store-entry in (
+    let a = l .before .before .before .before .args in
+    let u = c .before .before .write-entry in
+    let b = c .before .before .before .before .body .ensures in
+    let k = ap length b in
+    let m = body-short (a .pool .now) (getD (a .refs .now) (s .i) 0) in (
       omega arith,
       omega (arith, u .ensures .0),
-      omega arith,
+      omega (arith, k, m),
       u .kept .0 ∙ s .inv .3,
-      entries-again (a .refs .now) (a .n) (s .i) (search needs) (c .before .before .before .before .before .loop-test .taken) (s .buffer) _ (s .p) _ (omega arith) (s .start) (u .ensures .1) (u .ensures .0) ∙ s .inv .4,
+      rw k (entries-again (a .refs .now) (a .n) (s .i) (search needs) (c .before .before .before .before .before .before .loop-test .taken) (s .buffer) _ (s .p) _ (a .pool .now) (omega arith) (s .start) (u .ensures .1 ∙ ap (λ (x : Bytes). put (s .buffer) (s .p) (entryOf (s .start) x)) b) (u .ensures .0)) ∙ s .inv .4,
     )
 
 same-length : tie.Need-same-length Inv-loop μ-loop
@@ -64,9 +69,9 @@ returns : tie.Need-returns Inv-loop μ-loop
 returns c =
     let l = c .before in
     let s = l .loop in
-    let a = l .before .before .before .args in
+    let a = l .before .before .before .before .args in
     let e = rest-empty (a .refs .now) (a .n) (s .i) (search needs) (s .inv .0) (c .loop-test .left) in
-    (omega arith, sym (ap (λ (xs : List ℕ). put (s .buffer) (s .p) (entriesFrom (s .start) xs)) e ∙ rw (entries-none (s .start)) (put-none (s .buffer) (s .p))) ∙ s .inv .4)
+    (omega arith, sym (ap (λ (xs : List ℕ). put (s .buffer) (s .p) (entries (s .start) (map (bodyIn (a .pool .now)) xs))) e ∙ rw (entries-none (s .start)) (put-none (s .buffer) (s .p))) ∙ s .inv .4)
 
 pub store-entries-spec : {M : Type 1} → statement M
 store-entries-spec =
@@ -75,10 +80,10 @@ store-entries-spec =
     Inv-loop
     μ-loop
     loop-holds
-    mul-size
-    shared-slice-read-size
-    cast-size
-    store-entry-requires
+    mul-body
+    shared-slice-read-body
+    body-requires
+    write-entry-requires
     add-start
     add-i
     loop-less

@@ -8,8 +8,9 @@ use Rattle.model.specs.Layout.{pairLength}
 use Rattle.model.specs.Bytes.{put}
 use Rattle.record.specs.Coded.{lePairs}
 use Rattle.text.proofs.Put.{put-none}
+use Rattle.record.proofs.Written.{pairs-none}
 use Rattle.tables.specs.Tables.{placesOf, pairsIn}
-use Rattle.tables.proofs.Writing.{pairs-none, rest-empty, pairs-again}
+use Rattle.tables.proofs.Writing.{rest-empty, pairs-again}
 use borrow.Author.Needs.{needs}
 use native.Mathlib.Omega.{arith}
 use Rattle.tables.proofs.storing.store_pairs.Statement.{statement}
@@ -33,8 +34,8 @@ shared-slice-read-x c = search needs
 cast-x : tie.Need-cast-x Inv-loop μ-loop
 cast-x c = omega (arith, c .shared-slice-known2 .given (c .before .before .loop .i))
 
-store-pair-requires : tie.Need-store-pair-requires Inv-loop μ-loop
-store-pair-requires c κs = search needs
+write-pair-requires : tie.Need-write-pair-requires Inv-loop μ-loop
+write-pair-requires c κs = search needs
 
 add-i : tie.Need-add-i Inv-loop μ-loop
 add-i c = search needs
@@ -47,7 +48,7 @@ loop-again c =
     let l = c .before .before .before .before .before .before in
     let s = l .loop in
     let a = l .before .before .before .args in
-    let u = c .before .before .store-pair in (
+    let u = c .before .before .write-pair in (
       omega arith,
       omega (arith, u .ensures .0),
       u .kept .0 ∙ s .inv .2,
@@ -75,7 +76,7 @@ store-pairs-spec =
     mul-x
     shared-slice-read-x
     cast-x
-    store-pair-requires
+    write-pair-requires
     add-i
     loop-less
     loop-again

@@ -1,9 +1,9 @@
 -- Two numbers, one behind the other.
-use Rattle.tables.proofs.Writing.{entry-written}
+use Rattle.record.proofs.Written.{pair-written}
 use native.Mathlib.Omega.{arith}
 use borrow.Author.Needs.{needs}
-use Rattle.tables.proofs.storing.store_entry.Statement.{statement}
-use Rattle.tables.proofs.storing.store_entry.Tie as tie
+use Rattle.record.proofs.writing.write_pair.Statement.{statement}
+use Rattle.record.proofs.writing.write_pair.Tie as tie
 
 write16-requires : tie.Need-write16-requires
 write16-requires c κs = search needs
@@ -19,7 +19,7 @@ returns c =
     let a = c .before .before .before .before .before .before .before .before .before .args in
     let u = c .before .before .before .before .before .before .write16 in
     let v = c .before .before .write162 in
-    (omega (arith, u .ensures .0, v .ensures .0), entry-written (a .buffer .now) _ _ (a .at) _ (a .start) (a .size) (search needs) (u .ensures .1) (u .ensures .0) (v .ensures .1))
+    (omega (arith, u .ensures .0, v .ensures .0), pair-written (a .buffer .now) _ _ (a .at) _ (a .from) (a .to) (search needs) (u .ensures .1) (u .ensures .0) (v .ensures .1))
 
-pub store-entry-spec : {M : Type 1} → statement M
-store-entry-spec = tie.close (tie.spec write16-requires write16-requires-2 same-length returns)
+pub write-pair-spec : {M : Type 1} → statement M
+write-pair-spec = tie.close (tie.spec write16-requires write16-requires-2 same-length returns)

@@ -8,12 +8,13 @@ use Rattle.model.specs.declared.Kind.the-variants.{Subgraph, Translation}
 use Rattle.model.specs.Bytes.{Bytes}
 use Rattle.model.specs.Layout.{pairLength, pairCount, tableAt, shown}
 use Rattle.model.specs.Opening.{faultOf}
-use Rattle.record.proofs.Opening.{IsRecord, record-opened}
+use Rattle.record.proofs.Opening.{record-opened}
 use Rattle.record.proofs.Access.{pair-within}
 use Rattle.export.specs.Places.{RecordIn}
 
-pub record-in : (b : Bytes) → IsRecord b → RecordIn b
-record-in b r =
+pub record-in : (b : Bytes) → faultOf b ≡ 0 → RecordIn b
+record-in b z =
+    let r = record-opened b z .0 in
     let h = r .held in
     record {
       counts = omega (arith, h .long);
@@ -22,8 +23,5 @@ record-in b r =
     }
   where
     ends : (k : Kind) → tableAt k b + pairLength * pairCount k b ≤ length b
-    ends Subgraph = let h = r .held in omega (arith, h .long, h .count, h .subgraphs)
-    ends Translation = let h = r .held in omega (arith, h .long, h .count, h .subgraphs, h .translations)
-
-pub opened : (b : Bytes) → faultOf b ≡ 0 → RecordIn b
-opened b z = record-in b (record-opened b z .0)
+    ends Subgraph = let h = record-opened b z .0 .held in omega (arith, h .long, h .count, h .subgraphs)
+    ends Translation = let h = record-opened b z .0 .held in omega (arith, h .long, h .count, h .subgraphs, h .translations)

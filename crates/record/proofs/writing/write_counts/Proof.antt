@@ -1,9 +1,9 @@
 -- Four numbers, one behind the other.
-use Rattle.tables.proofs.Writing.{counts-written}
+use Rattle.record.proofs.Written.{counts-written}
 use native.Mathlib.Omega.{arith}
 use borrow.Author.Needs.{needs}
-use Rattle.tables.proofs.storing.store_counts.Statement.{statement}
-use Rattle.tables.proofs.storing.store_counts.Tie as tie
+use Rattle.record.proofs.writing.write_counts.Statement.{statement}
+use Rattle.record.proofs.writing.write_counts.Tie as tie
 
 write16-requires : tie.Need-write16-requires
 write16-requires c κs = search needs
@@ -29,8 +29,8 @@ returns c =
     let v = c .before .before .write164 in
     (omega (arith, s .ensures .0, t .ensures .0, u .ensures .0, v .ensures .0), counts-written (a .buffer .now) _ _ _ _ (s .result) (t .result) (u .result) (a .names) (a .own) (a .subgraph) (a .translation) (search needs) (s .ensures .1) (s .ensures .0) (t .ensures .1) (t .ensures .0) (u .ensures .1) (u .ensures .0) (v .ensures .1))
 
-pub store-counts-spec : {M : Type 1} → statement M
-store-counts-spec =
+pub write-counts-spec : {M : Type 1} → statement M
+write-counts-spec =
     tie.close
     (tie.spec
     write16-requires
