@@ -1,7 +1,6 @@
 // Making and changing records: the operations on record buffers, and the change over the working tables that they share.
 mod arrays;
 mod changing;
-mod keeping;
 mod merging;
 mod operations;
 

@@ -4,13 +4,15 @@ use crate::putting::is_at;
 use crate::putting::name_place;
 use crate::storing::store;
 ghost use mathlib.Core.Path.{_≡_};
+ghost use mathlib.Core.Bool.{true};
 ghost use Prim.Native.Nat.{_+_, _<_};
 ghost use lib.ListN.{length};
-ghost use Rattle.model.specs.Layout.{recordLength};
+ghost use Rattle.model.specs.Layout.{recordLength, shown, decode};
+ghost use Rattle.model.specs.Opening.{isSome};
 ghost use Rattle.model.specs.Outcome.{keptOr};
 ghost use Rattle.record.specs.Coded.{meaning};
-ghost use Rattle.tables.specs.Tables.{tables, namesIn, readOut};
-ghost use Rattle.tables.specs.Judging.{ownIf, namesAnd, countFault, sizeFault, outcome, NamesKept, Complete};
+ghost use Rattle.tables.specs.Tables.{tables, namesIn, readOut, graphIn};
+ghost use Rattle.tables.specs.Judging.{ownIf, namesAnd, countFault, sizeFault, owned, outcome, NamesKept, Complete, Good};
 
 // The first of the sizes that is over its limit: names, pairs of either kind, bytes. Or 0.
 fn count_fault(names: usize, bytes: usize, subgraph: usize, translation: usize) -> u32
@@ -53,7 +55,7 @@ pub fn size_fault(refs: &[u32], pool: &[u8], sizes: Sizes, has_name: bool, own: 
 }
 
 // Stores the tables, with the own name of this number, if they are within the sizes; else gives the number and leaves the buffer.
-pub fn keep(
+fn keep(
     buffer: &mut [u8],
     refs: &[u32],
     subs: &[u32],
@@ -71,4 +73,23 @@ pub fn keep(
     }
     store(refs, subs, trans, pool, sizes, own, buffer);
     0
+}
+
+// Stores the tables, among whose names is the record's own, if they are within the sizes; else gives the number and leaves the buffer.
+pub fn keep_named(
+    buffer: &mut [u8],
+    refs: &[u32],
+    subs: &[u32],
+    trans: &[u32],
+    pool: &[u8],
+    sizes: Sizes,
+) -> u32
+    requires { ⌜ (isSome (decode (now buffer)) ≡ true) × Good (shown (now buffer) .name) (tables (now refs) (now subs) (now trans) (now pool) sizes) ⌝ }
+    ensures { λ r. ⌜ outcome r (now (buffer .exit)) ≡ keptOr (now (buffer .entry)) (owned (shown (now (buffer .entry)) .name) (graphIn (tables (now (refs .entry)) (now (subs .entry)) (now (trans .entry)) (now (pool .entry)) sizes))) ⌝ }
+{
+    if !record::has_name(buffer) {
+        return keep(buffer, refs, subs, trans, pool, sizes, 0);
+    }
+    let p = name_place(refs, pool, sizes.names, record::own_name(buffer));
+    keep(buffer, refs, subs, trans, pool, sizes, p + 1)
 }

@@ -5,7 +5,7 @@ mod putting;
 mod sorted;
 mod storing;
 
-pub use judging::keep;
+pub use judging::keep_named;
 pub use judging::size_fault;
 pub use loading::load;
 pub use loading::sizes_of;

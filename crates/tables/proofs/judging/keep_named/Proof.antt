@@ -4,16 +4,16 @@ use mathlib.Core.Option.{Option, some, none}
 use Rattle.model.specs.Bytes.{Bytes}
 use Rattle.model.specs.Layout.{shown}
 use Rattle.model.specs.Outcome.{keptOr}
 use Rattle.tables.specs.Tables.{Tables, tables, graphIn}
 use Rattle.tables.specs.Judging.{owned, Good}
 use Rattle.tables.proofs.Judge.{complete-without, complete-placed, meaning-placed}
 use Rattle.record.proofs.Own.{named as an-own, unnamed as no-own}
 use Rattle.tables.proofs.Records.{is-held}
 use native.Mathlib.Omega.{arith}
 use borrow.Author.Tests.{not-true, not-false}
 use borrow.Author.Needs.{needs}
-use Rattle.edit.proofs.keeping.keep_named.Statement.{statement}
-use Rattle.edit.proofs.keeping.keep_named.Tie as tie
+use Rattle.tables.proofs.judging.keep_named.Statement.{statement}
+use Rattle.tables.proofs.judging.keep_named.Tie as tie
 
 -- the tables as they come in
 abbrev first : tie.Start → Tables
