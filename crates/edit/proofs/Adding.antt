@@ -12,7 +12,7 @@ use Rattle.model.specs.Layout.{shown, decode}
 use Rattle.model.specs.Opening.{isSome, faultOf}
 use Rattle.model.specs.Outcome.{Outcome, keptOr, addPair}
 use Rattle.tables.specs.Judging.{outcome}
-use Rattle.tables.proofs.Pairs.{names-withPair}
+use Rattle.sorted.proofs.Pairs.{names-withPair}
 use Rattle.tables.proofs.Judge.{any-insert}
 use Rattle.edit.proofs.Openings.{opened-refused, opened-done, empty-true, empty-false}
 

@@ -15,7 +15,8 @@ use Rattle.model.specs.Statements.{Ascending}
 use Rattle.record.proofs.Opening.{written-opened, written-refused}
 use Rattle.record.specs.Test.{Under}
 use Rattle.record.specs.Coded.{meaning}
-use Rattle.tables.specs.Tables.{Tables, tables, bodyIn, readOut, Storable}
+use Rattle.sorted.specs.Tables.{Tables, tables, bodyIn, readOut}
+use Rattle.tables.specs.Judging.{Storable}
 
 module _ (name : Bytes) where
   alone : names (withName name empty) ≡ name ∷ []

@@ -1,6 +1,4 @@
--- The pairs of another record put in one after the other, a change by its parts, and each operation by its tests.
-pub mod Merge
-pub mod AsRead
+-- Another record merged, a change by its parts, and each operation by its tests.
 pub mod MergeAll
 pub mod Changes
 pub mod Openings

@@ -11,10 +11,11 @@ use Rattle.model.specs.Bytes.{Bytes}
 use Rattle.model.specs.Record.{Pair, GraphName, comparePairs, insertAll, names, bodies}
 use Rattle.text.proofs.Order.{bytes-order}
 use Rattle.text.proofs.Ascending.{insertAll-members}
-use Rattle.tables.specs.Tables.{Tables, tableNames, graphIn, Kept}
-use Rattle.edit.specs.Merging.{withPairs, allOf, MergeRoom, PairsPut, PairsMerged}
-use Rattle.tables.proofs.Search.{length-names}
-use Rattle.edit.proofs.Merge.{fewer, shorter, all-ascending, all-count, all-bytes}
+use Rattle.sorted.specs.Tables.{Tables, tableNames, graphIn, Kept}
+use Rattle.tables.specs.Merging.{withPairs, allOf, MergeRoom, PairsPut}
+use Rattle.edit.specs.Merging.{PairsMerged}
+use Rattle.sorted.proofs.Search.{length-names}
+use Rattle.tables.proofs.Merge.{fewer, shorter, all-ascending, all-count, all-bytes}
 
 with-subgraphs : (ps : List Pair) (g : GraphName)
     → withPairs Subgraph ps g ≡ record { name = g .name; subgraph = insertAll comparePairs ps (g .subgraph); translation = g .translation }

@@ -11,8 +11,8 @@ use Rattle.model.specs.Record.{Pair, GraphName, withPair}
 use Rattle.model.specs.Layout.{shown, decode}
 use Rattle.model.specs.Opening.{isSome}
 use Rattle.model.specs.Outcome.{Outcome, keptOr}
-use Rattle.tables.specs.declared.putting.Sizes.{Sizes}
-use Rattle.tables.specs.Tables.{Tables, graphIn}
+use Rattle.sorted.specs.declared.putting.Sizes.{Sizes}
+use Rattle.sorted.specs.Tables.{Tables, graphIn}
 use Rattle.tables.specs.Judging.{Good}
 use Rattle.tables.specs.Loading.{TableRoom}
 use Rattle.edit.specs.Merging.{mergedIf}

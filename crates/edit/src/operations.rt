@@ -5,7 +5,7 @@ use model::Kind;
 use record::RECORD_LENGTH;
 use record::has_name;
 use record::own_name;
-use tables::Sizes;
+use sorted::Sizes;
 use tables::clear;
 use tables::store;
 use text::copy;

@@ -21,11 +21,11 @@ use Rattle.text.proofs.Order.{bytes-order}
 use Rattle.text.proofs.Ascending.{insert-members}
 use Rattle.text.proofs.Put.{length-put}
 use Rattle.record.proofs.Sizes.{judge-sizes}
-use Rattle.tables.specs.declared.putting.Sizes.{Sizes}
-use Rattle.tables.specs.Tables.{Tables, tables, namesIn, tableNames, graphIn, PairRoom, PairPut}
-use Rattle.tables.proofs.Search.{length-names}
+use Rattle.sorted.specs.declared.putting.Sizes.{Sizes}
+use Rattle.sorted.specs.Tables.{Tables, tables, namesIn, tableNames, graphIn, PairRoom, PairPut}
+use Rattle.sorted.proofs.Search.{length-names}
 use Rattle.tables.specs.Judging.{owned, namesAnd, NamesKept, Good}
-use Rattle.tables.proofs.Pairs.{names-withPair}
+use Rattle.sorted.proofs.Pairs.{names-withPair}
 use Rattle.text.proofs.Total.{total, total-count, total-bodies, ascending-once, total-part}
 use Rattle.tables.proofs.Judge.{good-put, names-owned, any-insert, length-shown, judge-tables}
 use Rattle.text.proofs.Tests.{either-true}

@@ -9,11 +9,11 @@ use Rattle.model.specs.Bytes.{Bytes}
 use Rattle.model.specs.Record.{names, bodies}
 use Rattle.record.proofs.Sizes.{judge-sizes}
 use Rattle.record.specs.Coded.{meaning}
-use Rattle.tables.specs.declared.putting.Sizes.{Sizes}
-use Rattle.tables.specs.Tables.{Tables, tables, tableNames, graphIn, readOut, NameRoom, NamePut, Storable}
-use Rattle.tables.specs.Judging.{owned}
+use Rattle.sorted.specs.declared.putting.Sizes.{Sizes}
+use Rattle.sorted.specs.Tables.{Tables, tables, tableNames, graphIn, readOut, NameRoom, NamePut}
+use Rattle.tables.specs.Judging.{owned, Storable}
 use Rattle.tables.proofs.Judge.{meaning-own, complete-own}
-use Rattle.tables.proofs.Search.{length-names}
+use Rattle.sorted.proofs.Search.{length-names}
 use Rattle.intake.specs.State.{graphNow, FittingState}
 use Rattle.intake.proofs.Progress.{own-some, now-names, in-use}
 

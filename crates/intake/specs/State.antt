@@ -9,8 +9,8 @@ use lib.Dec.{eqb, ltb}
 use Rattle.model.specs.Bytes.{Bytes}
 use Rattle.model.specs.Record.{GraphName, judge}
 use Rattle.model.specs.Reading.{Taken, took, wrong}
-use Rattle.tables.specs.declared.putting.Sizes.{Sizes}
-use Rattle.tables.specs.Tables.{Tables, graphIn}
+use Rattle.sorted.specs.declared.putting.Sizes.{Sizes}
+use Rattle.sorted.specs.Tables.{Tables, graphIn}
 use Rattle.tables.specs.Judging.{owned, namesAnd, sizeFault, Good}
 use Rattle.intake.specs.declared.taking.State.{State}
 use Rattle.intake.specs.declared.taking.FieldTaken.{FieldTaken}

@@ -3,7 +3,7 @@ use crate::taking::State;
 ghost use mathlib.Core.Path.{_≡_};
 ghost use lib.ListN.{length};
 ghost use Rattle.model.specs.Layout.{recordLength, encode};
-ghost use Rattle.tables.specs.Tables.{tables};
+ghost use Rattle.sorted.specs.Tables.{tables};
 ghost use Rattle.intake.specs.State.{graphNow, FittingState};
 
 // Writes the record of what a reading has, with the own name put into the tables.
@@ -24,7 +24,7 @@ pub fn store_state(
         tables::store(refs, subs, trans, pool, state.sizes, 0, buffer);
         return;
     }
-    let placed = tables::put_name(
+    let placed = sorted::put_name(
         refs,
         subs,
         trans,

@@ -1,7 +1,7 @@
 // A field taken into the working tables: its own name is kept apart, its pair put in, and the sizes judged on what stands then.
 use fields::Content;
 use model::Kind;
-use tables::Sizes;
+use sorted::Sizes;
 ghost use mathlib.Core.Path.{_≡_};
 ghost use Prim.Native.Nat.{_+_, _≤_};
 ghost use lib.ListN.{length};
@@ -9,7 +9,7 @@ ghost use Rattle.model.specs.Bytes.{put};
 ghost use Rattle.model.specs.Record.{withPair};
 ghost use Rattle.model.specs.Reading.{judged};
 ghost use Rattle.tables.specs.Judging.{NamesKept};
-ghost use Rattle.tables.specs.Tables.{tables, namesIn};
+ghost use Rattle.sorted.specs.Tables.{tables, namesIn};
 ghost use Rattle.fields.specs.Fields.{apply};
 ghost use Rattle.fields.specs.Contents.{meaningOf, PlacesIn};
 ghost use Rattle.intake.specs.State.{nothingTaken, ownOf, graphNow, faultWith, stateTaken, nameTaken, FittingState, TakenAs};
@@ -132,7 +132,7 @@ fn take_pair(
         return FieldTaken::Wrong(11);
     }
     let n = state.own;
-    let sizes = tables::put_pair(kind, refs, subs, trans, pool, state.sizes, from, to);
+    let sizes = sorted::put_pair(kind, refs, subs, trans, pool, state.sizes, from, to);
     take_state(refs, pool, own, State { sizes, own: n })
 }
 

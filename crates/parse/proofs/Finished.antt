@@ -13,11 +13,11 @@ use Rattle.model.specs.Reading.{fromHeaderLines, Refusal, Reading}
 use Rattle.model.specs.Outcome.{outcomeOf, readingInto, refusalOf, refusalInto}
 use Rattle.record.specs.Test.{Under}
 use Rattle.record.proofs.Opening.{written-opened, written-refused}
-use Rattle.tables.specs.Tables.{tables}
+use Rattle.sorted.specs.Tables.{tables}
 use Rattle.tables.proofs.Writing.{cleared}
 use Rattle.tables.specs.Judging.{Good}
-use Rattle.tables.specs.declared.putting.Sizes.{Sizes}
-use Rattle.tables.specs.Tables.{Tables}
+use Rattle.sorted.specs.declared.putting.Sizes.{Sizes}
+use Rattle.sorted.specs.Tables.{Tables}
 use Rattle.intake.specs.declared.taking.State.{State}
 use Rattle.parse.specs.declared.ending.Refusal.{Refusal as Given}
 use Rattle.parse.specs.declared.ending.Ended.{Ended}

@@ -8,7 +8,7 @@ use Rattle.model.specs.Bytes.{Bytes}
 use Rattle.model.specs.Record.{GraphName}
 use Rattle.model.specs.Reading.{Reading, refused, afterTaken}
 use Rattle.model.specs.Outcome.{refusalOf}
-use Rattle.tables.specs.Tables.{tables}
+use Rattle.sorted.specs.Tables.{tables}
 use Rattle.fields.specs.declared.field.Source.{Source}
 use Rattle.fields.specs.declared.field.Source.the-variants.{Header, Tag}
 use Rattle.fields.specs.declared.step.Tally.{Tally}

@@ -8,8 +8,8 @@ use Rattle.model.specs.declared.Kind.the-variants.{Subgraph, Translation}
 use Rattle.model.specs.Bytes.{Bytes}
 use Rattle.model.specs.Record.{GraphName, empty, withName}
 use Rattle.model.specs.Reading.{judged, Reading, done, refused, afterReading, nameValue, addTo, tagValue, fromTags}
-use Rattle.tables.specs.declared.putting.Sizes.{Sizes}
-use Rattle.tables.specs.Tables.{Tables}
+use Rattle.sorted.specs.declared.putting.Sizes.{Sizes}
+use Rattle.sorted.specs.Tables.{Tables}
 use Rattle.intake.specs.declared.taking.State.{State}
 use Rattle.intake.specs.declared.taking.FieldTaken.{FieldTaken}
 use Rattle.intake.specs.declared.taking.FieldTaken.the-variants.{Took, Wrong}

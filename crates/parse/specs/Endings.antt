@@ -4,8 +4,8 @@ use Prim.Native.Nat.{ℕ, _+_}
 use lib.ListN.{length}
 use Rattle.model.specs.Bytes.{Bytes}
 use Rattle.model.specs.Reading.{Reading, done, refused}
-use Rattle.tables.specs.declared.putting.Sizes.{Sizes}
-use Rattle.tables.specs.Tables.{Tables}
+use Rattle.sorted.specs.declared.putting.Sizes.{Sizes}
+use Rattle.sorted.specs.Tables.{Tables}
 use Rattle.fields.specs.declared.field.Source.{Source}
 use Rattle.fields.specs.declared.field.Source.the-variants.{Header, Tag}
 use Rattle.intake.specs.State.{graphNow, FittingState}

@@ -5,7 +5,7 @@ ghost use mathlib.Core.Path.{_≡_};
 ghost use lib.ListN.{length};
 ghost use Rattle.model.specs.Outcome.{outcomeOf, refusalOf};
 ghost use Rattle.model.specs.Layout.{recordLength};
-ghost use Rattle.tables.specs.Tables.{tables};
+ghost use Rattle.sorted.specs.Tables.{tables};
 ghost use Rattle.parse.specs.Endings.{readingOf, FittingAtEnd};
 ghost use Rattle.parse.specs.Refusals.{refusalIn};
 

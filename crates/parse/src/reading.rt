@@ -8,7 +8,7 @@ use intake::FieldTaken;
 use intake::State;
 use intake::take_field;
 ghost use mathlib.Core.Path.{_≡_};
-ghost use Rattle.tables.specs.Tables.{tables};
+ghost use Rattle.sorted.specs.Tables.{tables};
 ghost use Rattle.fields.specs.Rest.{restOf};
 ghost use Rattle.intake.specs.State.{graphNow, FittingState};
 ghost use Rattle.parse.specs.Endings.{firstStop, EndedAs};

@@ -19,7 +19,7 @@ use record::RECORD_LENGTH;
 ghost use mathlib.Core.Path.{_≡_};
 ghost use Rattle.model.specs.Reading.{afterReading, nameValue, addTo, tagValue, fromTags};
 ghost use Rattle.model.specs.Outcome.{readTagsInto, refusalInto};
-ghost use Rattle.tables.specs.Tables.{tables};
+ghost use Rattle.sorted.specs.Tables.{tables};
 ghost use Rattle.fields.specs.Fields.{tagNumber};
 ghost use Rattle.intake.specs.State.{Lengths, graphNow, FittingState};
 ghost use Rattle.parse.specs.Endings.{readingOf, FittingAtEnd, EndedAs};

@@ -24,16 +24,16 @@ use Rattle.record.proofs.Sizes.{judge-sizes}
 use Rattle.record.proofs.Names.{allNames, names-ascending, names-members, own-listed}
 use Rattle.text.proofs.Order.{bytes-order}
 use Rattle.text.proofs.Ascending.{insert-members, insert-ascending, insert-present, ascending-unique}
-use Rattle.tables.specs.Sorted.{lower}
-use Rattle.tables.specs.Tables.{Tables, namesIn, tableNames, graphIn, readOut, placesOf, pairsIn, holdsAt, NamePut, PairPut, Storable}
-use Rattle.tables.specs.declared.putting.Sizes.{Sizes}
-use Rattle.tables.specs.Judging.{owned, ownIf, namesAnd, countFault, sizeFault, outcome, NamesKept, Good, Complete}
-use Rattle.tables.proofs.Lower.{lower-le, insert-new, insert-there}
-use Rattle.tables.proofs.Splice.{length-spliced, length-bodies-spliced}
-use Rattle.tables.proofs.Search.{length-names}
-use Rattle.tables.proofs.Pairs.{names-withPair}
-use Rattle.tables.proofs.PutName.{holds-true, holds-false}
-use Rattle.tables.proofs.PutPair.{insert-at-lower}
+use Rattle.sorted.specs.Sorted.{lower}
+use Rattle.sorted.specs.Tables.{Tables, namesIn, tableNames, graphIn, readOut, placesOf, pairsIn, holdsAt, NamePut, PairPut}
+use Rattle.sorted.specs.declared.putting.Sizes.{Sizes}
+use Rattle.tables.specs.Judging.{owned, ownIf, namesAnd, countFault, sizeFault, outcome, NamesKept, Good, Complete, Storable}
+use Rattle.sorted.proofs.Lower.{lower-le, insert-new, insert-there}
+use Rattle.sorted.proofs.Splice.{length-spliced, length-bodies-spliced}
+use Rattle.sorted.proofs.Search.{length-names}
+use Rattle.sorted.proofs.Pairs.{names-withPair}
+use Rattle.sorted.proofs.PutName.{holds-true, holds-false}
+use Rattle.sorted.proofs.PutPair.{insert-at-lower}
 
 -- ------------------------------------------------------------------ the names with an own name
 

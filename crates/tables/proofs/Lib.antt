@@ -1,16 +1,8 @@
--- Ascending numbers and what is put into them, the tables stored and loaded, and the sizes judged.
-pub mod Gap
-pub mod Lower
-pub mod Splice
-pub mod Renumber
-pub mod Front
-pub mod Search
-pub mod Bodies
-pub mod Pairs
-pub mod PutName
-pub mod PutPair
+-- The tables stored and loaded, the sizes judged, and the pairs of another record put in one after the other.
 pub mod Writing
 pub mod Stored
 pub mod Judge
 pub mod Records
 pub mod Loaded
+pub mod Merge
+pub mod AsRead

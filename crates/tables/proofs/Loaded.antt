@@ -26,12 +26,12 @@ use Rattle.record.proofs.ReadWrite.{length-names}
 use Rattle.record.proofs.Shown.{shown-meaning}
 use Rattle.text.proofs.Ascending.{ascends-true}
 use Rattle.text.proofs.Places.{ascends-map, member-map}
-use Rattle.tables.specs.declared.putting.Sizes.{Sizes}
-use Rattle.tables.specs.Tables.{Tables, tables, tableNames, graphIn, placesOf, namesIn, pairsIn, KeptPairs}
+use Rattle.sorted.specs.declared.putting.Sizes.{Sizes}
+use Rattle.sorted.specs.Tables.{Tables, tables, tableNames, graphIn, placesOf, namesIn, pairsIn, KeptPairs}
 use Rattle.tables.specs.Judging.{owned}
 use Rattle.tables.specs.Loading.{sizesOf, TableRoom, Loaded}
-use Rattle.tables.proofs.Bodies.{first-of, second-of}
-use Rattle.tables.proofs.PutPair.{compare-places}
+use Rattle.sorted.proofs.Bodies.{first-of, second-of}
+use Rattle.sorted.proofs.PutPair.{compare-places}
 use Rattle.tables.proofs.Records.{is-held, shown-names, shown-count, pairs-counted}
 
 -- ------------------------------------------------------------------ pairs of numbers

@@ -2,20 +2,23 @@
 use mathlib.Core.Path.{_≡_, refl, sym, ap, _∙_}
 use mathlib.Core.Bool.{true, false≢true}
 use mathlib.Core.Option.{Option, some, none}
-use Prim.Native.Nat.{ℕ, _+_, _*_, _≤_, _<_}
+use Prim.Native.Nat.{ℕ, zero, suc, _+_, _-_, _*_, _≤_, _<_}
 use native.Mathlib.Omega.{arith}
+use lib.Dec.{lit≤}
 use lib.ListN.{length, drop, length-drop}
 use lib.Seq.{length-take-le}
 use Rattle.model.specs.Bytes.{Bytes}
 use Rattle.model.specs.Record.{GraphName, names}
-use Rattle.model.specs.Layout.{nameCount, pairLength, bodyStart, bodyLength, bodiesAt, nameAt, shown, decode, pairCount, tableAt}
+use Rattle.model.specs.Layout.{nameCount, ownNumber, pairLength, bodyStart, bodyLength, bodiesAt, nameAt, shown, decode, pairCount, tableAt}
 use Rattle.model.specs.Questions.{pairsOf}
 use Rattle.model.specs.Opening.{isSome}
+use Rattle.model.specs.Outcome.{nameOr}
 use Rattle.model.specs.declared.Kind.{Kind}
 use Rattle.model.specs.declared.Kind.the-variants.{Subgraph, Translation}
 use Rattle.record.specs.Test.{namesOf}
 use Rattle.record.proofs.Held.{Held}
 use Rattle.record.proofs.Laws.{decoded, decode-held, decode-shown}
+use Rattle.record.proofs.Own.{own-none, own-some}
 use Rattle.record.proofs.Access.{name-within, record-names, record-count, record-pairCount}
 use Rattle.record.proofs.Sizes.{Sizes, judge-sizes}
 
@@ -56,3 +59,13 @@ module _ (b : Bytes) (v : isSome (decode b) ≡ true) where
   pub pair-inside : (k : Kind) (i : ℕ) → i < pairCount k b → tableAt k b + pairLength * i + pairLength ≤ length b
   pair-inside Subgraph i h = omega (arith, is-held .long, is-held .count, is-held .subgraphs)
   pair-inside Translation i h = omega (arith, is-held .long, is-held .count, is-held .subgraphs, is-held .translations)
+
+-- the own name is short, where there is one
+pub own-short : (b : Bytes) → isSome (decode b) ≡ true → length (nameOr (shown b .name)) ≤ 256
+own-short b v = go (ownNumber b) refl
+  where
+    go : (own : ℕ) → ownNumber b ≡ own → length (nameOr (shown b .name)) ≤ 256
+    go zero e = rw (own-none b (ownNumber b) refl e) (lit≤ tt)
+    go (suc i) e =
+        let h = is-held b v in
+        rw (own-some b (ownNumber b) refl (λ z. omega arith)) (name-short b v (ownNumber b - 1) (omega (arith, h .own)))

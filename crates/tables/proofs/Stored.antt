@@ -14,8 +14,9 @@ use Rattle.record.proofs.Words.{length-lePairs}
 use Rattle.record.proofs.Written.{length-counts, length-entries}
 use Rattle.record.proofs.Coded.{coded, coded-again}
 use Rattle.record.proofs.Write.{parts-encode}
-use Rattle.tables.specs.Tables.{Tables, placesOf, pairsIn, tableNames, readOut, Storable}
-use Rattle.tables.proofs.Search.{length-names}
+use Rattle.sorted.specs.Tables.{Tables, placesOf, pairsIn, tableNames, readOut}
+use Rattle.tables.specs.Judging.{Storable}
+use Rattle.sorted.proofs.Search.{length-names}
 
 -- ------------------------------------------------------------------ one part behind the other
 

@@ -14,7 +14,7 @@ use Rattle.record.specs.Coded.{lePairs, entryOf}
 use Rattle.record.proofs.Words.{length-lePairs}
 use Rattle.record.proofs.Written.{pairs-cons, entries-cons, length-entry, length-entries}
 use Rattle.text.proofs.Put.{put-none, put-one, put-append, put-rest, put-whole}
-use Rattle.tables.specs.Tables.{bodyIn, placesOf}
+use Rattle.sorted.specs.Tables.{bodyIn, placesOf}
 
 -- a table's number has no more than two bytes for the length
 pub body-short : (pool : Bytes) (r : ℕ) → length (bodyIn pool r) < 65536

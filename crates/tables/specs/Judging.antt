@@ -11,8 +11,8 @@ use Rattle.model.specs.Record.{GraphName, insert, names, anyLong, bodies}
 use Rattle.model.specs.Outcome.{Outcome}
 use Rattle.model.specs.Statements.{Ascending}
 use Rattle.record.specs.Coded.{meaning}
-use Rattle.tables.specs.declared.putting.Sizes.{Sizes}
-use Rattle.tables.specs.Tables.{Tables, namesIn, tableNames, graphIn, readOut, Kept}
+use Rattle.sorted.specs.declared.putting.Sizes.{Sizes}
+use Rattle.sorted.specs.Tables.{Tables, namesIn, tableNames, graphIn, readOut, Kept}
 
 -- a graph name with this own name, or none
 abbrev pub owned : Option Bytes → GraphName → GraphName
@@ -58,4 +58,14 @@ pub record Good (own : Option Bytes) (t : Tables) : Type 0 where
 pub record Complete (t : Tables) (own : ℕ) : Type 0 where
   pub kept : Kept t
   pub own-within : own ≤ t .sizes .names
+  pub used : names (meaning (readOut t own)) ≡ tableNames t
+
+-- the tables, with the own name of this number, are those of a graph name within the sizes
+pub record Storable (t : Tables) (own : ℕ) : Type 0 where
+  pub kept : Kept t
+  pub own-within : own ≤ t .sizes .names
+  pub count : t .sizes .names ≤ 512
+  pub bytes : t .sizes .bytes ≤ 22520
+  pub subgraph : t .sizes .subgraph ≤ 1024
+  pub translation : t .sizes .translation ≤ 1024
   pub used : names (meaning (readOut t own)) ≡ tableNames t

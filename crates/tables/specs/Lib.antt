@@ -1,5 +1,4 @@
--- Ascending numbers, the tables and what they show, the sizes, and a record loaded.
-pub mod Sorted
-pub mod Tables
+-- The sizes, a record loaded, and the pairs of another put in.
 pub mod Judging
 pub mod Loading
+pub mod Merging

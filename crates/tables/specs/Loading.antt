@@ -9,8 +9,8 @@ use Rattle.model.specs.declared.Kind.{Kind}
 use Rattle.model.specs.Record.{GraphName, names, bodies}
 use Rattle.record.specs.Test.{pairsAt}
 use Rattle.model.specs.Layout.{pairCount, tableAt}
-use Rattle.tables.specs.declared.putting.Sizes.{Sizes}
-use Rattle.tables.specs.Tables.{Tables, graphIn}
+use Rattle.sorted.specs.declared.putting.Sizes.{Sizes}
+use Rattle.sorted.specs.Tables.{Tables, graphIn}
 use Rattle.tables.specs.Judging.{owned, Good}
 
 -- the pairs of a kind, as places

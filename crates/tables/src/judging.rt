@@ -1,8 +1,8 @@
 // The sizes, the numbers 11 to 14 of docs/FORMAT.md, and storing what is within them.
-use crate::putting::Sizes;
-use crate::putting::is_at;
-use crate::putting::name_place;
 use crate::storing::store;
+use sorted::Sizes;
+use sorted::is_at;
+use sorted::name_place;
 ghost use mathlib.Core.Path.{_≡_};
 ghost use mathlib.Core.Bool.{true};
 ghost use Prim.Native.Nat.{_+_, _<_};
@@ -11,7 +11,7 @@ ghost use Rattle.model.specs.Layout.{recordLength, shown, decode};
 ghost use Rattle.model.specs.Opening.{isSome};
 ghost use Rattle.model.specs.Outcome.{keptOr};
 ghost use Rattle.record.specs.Coded.{meaning};
-ghost use Rattle.tables.specs.Tables.{tables, namesIn, readOut, graphIn};
+ghost use Rattle.sorted.specs.Tables.{tables, namesIn, readOut, graphIn};
 ghost use Rattle.tables.specs.Judging.{ownIf, namesAnd, countFault, sizeFault, owned, outcome, NamesKept, Complete, Good};
 
 // The first of the sizes that is over its limit: names, pairs of either kind, bytes. Or 0.

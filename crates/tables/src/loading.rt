@@ -1,5 +1,4 @@
 // A record copied into the tables: the entries of its names, the pairs of each kind and the bodies, in their order. `storing` writes them back.
-use crate::putting::Sizes;
 use model::Kind;
 use record::PAIR_LENGTH;
 use record::bodies_at;
@@ -11,6 +10,7 @@ use record::pair_count;
 use record::pair_from;
 use record::pair_to;
 use record::table_at;
+use sorted::Sizes;
 use text::copy;
 use text::part;
 ghost use mathlib.Core.Path.{_≡_};
@@ -22,7 +22,7 @@ ghost use Rattle.model.specs.Record.{bodies};
 ghost use Rattle.model.specs.Layout.{nameCount, shown, decode, pairCount};
 ghost use Rattle.model.specs.Opening.{isSome};
 ghost use Rattle.record.specs.Test.{entriesOf, namesOf};
-ghost use Rattle.tables.specs.Tables.{tables, pairsIn};
+ghost use Rattle.sorted.specs.Tables.{tables, pairsIn};
 ghost use Rattle.tables.specs.Loading.{pairsOfKind, sizesOf, TableRoom, Loaded};
 
 // Copies start and length of each name.

@@ -1,9 +1,9 @@
 // The tables written into a record buffer: the counts, the entries of the names, the pairs of each kind and the bodies, in their order.
-use crate::putting::Sizes;
-use crate::putting::body;
 use record::write_counts;
 use record::write_entry;
 use record::write_pair;
+use sorted::Sizes;
+use sorted::body;
 ghost use mathlib.Core.Path.{_≡_};
 ghost use Prim.Native.Nat.{_+_, _-_, _*_, _≤_, _<_};
 ghost use lib.ListN.{length, replicate};
@@ -11,7 +11,8 @@ ghost use Rattle.model.specs.Bytes.{put};
 ghost use Rattle.model.specs.Record.{bodies};
 ghost use Rattle.model.specs.Layout.{recordLength, entryLength, pairLength, entries, encode};
 ghost use Rattle.record.specs.Coded.{lePairs, meaning};
-ghost use Rattle.tables.specs.Tables.{tables, pairsIn, namesIn, readOut, Storable};
+ghost use Rattle.sorted.specs.Tables.{tables, pairsIn, namesIn, readOut};
+ghost use Rattle.tables.specs.Judging.{Storable};
 
 // Writes the entries of the first n names at `at`.
 fn store_entries(buffer: &mut [u8], at: usize, refs: &[u32], pool: &[u8], n: usize) -> usize

@@ -1,7 +1,7 @@
 -- Small tables where both fit them, else large ones.
 use mathlib.Core.Path.{sym, subst}
 use Rattle.model.specs.Layout.{shown}
-use Rattle.tables.specs.declared.putting.Sizes.{Sizes}
+use Rattle.sorted.specs.declared.putting.Sizes.{Sizes}
 use Rattle.tables.specs.Loading.{sizesOf}
 use Rattle.edit.specs.Changing.{Limited, FitSmall}
 use Rattle.edit.proofs.Changes.{limited, limited-if}

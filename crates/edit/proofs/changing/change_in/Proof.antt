@@ -4,8 +4,8 @@ use mathlib.Core.Bool.{Bool}
 use Rattle.model.specs.Record.{GraphName}
 use Rattle.model.specs.Layout.{shown}
 use Rattle.model.specs.Outcome.{keptOr}
-use Rattle.tables.specs.declared.putting.Sizes.{Sizes}
-use Rattle.tables.specs.Tables.{Tables, tables, graphIn}
+use Rattle.sorted.specs.declared.putting.Sizes.{Sizes}
+use Rattle.sorted.specs.Tables.{Tables, tables, graphIn}
 use Rattle.tables.specs.Judging.{Good}
 use Rattle.edit.specs.Merging.{mergedIf, sizesIf}
 use Rattle.edit.specs.Changing.{ChangeRoom}

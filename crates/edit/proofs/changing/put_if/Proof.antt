@@ -1,5 +1,5 @@
 -- A pair is put in, or nothing is.
-use Rattle.tables.specs.Tables.{Tables, tables}
+use Rattle.sorted.specs.Tables.{Tables, tables}
 use Rattle.edit.proofs.Changes.{paired-if, not-paired}
 use borrow.Author.Needs.{needs}
 use Rattle.edit.proofs.changing.put_if.Statement.{statement}

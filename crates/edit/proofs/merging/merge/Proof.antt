@@ -3,7 +3,7 @@ use mathlib.Core.Path.{_≡_}
 use mathlib.Core.Bool.{true}
 use borrow.Author.Tests.{not-true, not-false}
 use Rattle.model.specs.Layout.{shown}
-use Rattle.tables.specs.Tables.{Tables, tables}
+use Rattle.sorted.specs.Tables.{Tables, tables}
 use Rattle.edit.proofs.MergeAll.{first-merge, second-merge, merged, not-merged}
 use borrow.Author.Needs.{needs}
 use Rattle.edit.proofs.merging.merge.Statement.{statement}

@@ -9,7 +9,7 @@ use Rattle.model.specs.Layout.{shown}
 use Rattle.model.specs.Outcome.{Outcome, keptOr}
 use Rattle.text.proofs.Put.{take-put}
 use Rattle.tables.proofs.Records.{is-held}
-use Rattle.edit.proofs.AsRead.{own-short}
+use Rattle.tables.proofs.Records.{own-short}
 use borrow.Author.Needs.{needs}
 use Rattle.edit.proofs.operations.relate_named.Statement.{statement}
 use Rattle.edit.proofs.operations.relate_named.Tie as tie

@@ -2,7 +2,8 @@
 use mathlib.Core.Path.{ap, _∙_}
 use Rattle.model.specs.Layout.{encode}
 use Prim.Native.Nat.{_+_}
-use Rattle.tables.specs.Tables.{tables, Storable}
+use Rattle.sorted.specs.Tables.{tables}
+use Rattle.tables.specs.Judging.{Storable}
 use Rattle.intake.proofs.Stored.{stored-none, graph-none, name-room, stored-own, graph-own}
 use native.Mathlib.Omega.{arith}
 use borrow.Author.Needs.{needs}

@@ -1,6 +1,6 @@
 -- By what the field says (`Progress`).
 use mathlib.Core.Path.{refl, subst}
-use Rattle.tables.specs.Tables.{tables}
+use Rattle.sorted.specs.Tables.{tables}
 use Rattle.fields.specs.Contents.{PlacesIn}
 use Rattle.fields.specs.declared.field.Content.{Content}
 use Rattle.fields.specs.declared.field.Content.the-variants.{Relation}

@@ -2,7 +2,7 @@
 use mathlib.Core.Path.{_∙_}
 use lib.ListN.{length}
 use borrow.Author.Tests.{lt-ltb}
-use Rattle.tables.specs.Tables.{namesIn}
+use Rattle.sorted.specs.Tables.{namesIn}
 use Rattle.intake.proofs.Progress.{name-taken}
 use native.Mathlib.Omega.{arith}
 use borrow.Author.Needs.{needs}

@@ -1,6 +1,6 @@
 -- By how the reading ended (`Finished`).
 use mathlib.Core.Path.{subst}
-use Rattle.tables.specs.Tables.{tables}
+use Rattle.sorted.specs.Tables.{tables}
 use Rattle.parse.specs.Endings.{FittingAtEnd}
 use Rattle.parse.specs.declared.ending.Ended.{Ended}
 use Rattle.parse.proofs.Finished.{done-ended, refused-ended}

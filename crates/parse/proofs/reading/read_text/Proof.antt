@@ -5,7 +5,7 @@ use Prim.Native.Nat.{_+_, _-_}
 use lib.ListN.{length}
 use borrow.Author.Tests.{ltb-true, ltb-false}
 use Rattle.model.specs.Bytes.{Bytes}
-use Rattle.tables.specs.Tables.{tables}
+use Rattle.sorted.specs.Tables.{tables}
 use Rattle.fields.specs.Fields.{apply}
 use Rattle.fields.specs.Contents.{meaningOf, PlacesIn}
 use Rattle.fields.specs.Rest.{restOf, partOf}

@@ -1,7 +1,7 @@
 -- No name, or the name taken (`TagValues`).
 use native.Mathlib.Omega.{arith}
 use borrow.Author.Tests.{not-true, not-false}
-use Rattle.tables.specs.Tables.{tables}
+use Rattle.sorted.specs.Tables.{tables}
 use Rattle.parse.proofs.TagValues.{name-absent, name-took, name-wrong}
 use borrow.Author.Needs.{needs}
 use Rattle.parse.proofs.tags.read_name.Statement.{statement}

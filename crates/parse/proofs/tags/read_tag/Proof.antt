@@ -1,7 +1,7 @@
 -- No tag, a reading that went on, or a refusal that stays (`TagValues`).
 use mathlib.Core.Path.{subst}
 use borrow.Author.Tests.{not-true, not-false}
-use Rattle.tables.specs.Tables.{tables}
+use Rattle.sorted.specs.Tables.{tables}
 use Rattle.parse.specs.Endings.{FittingAtEnd}
 use Rattle.parse.specs.declared.ending.Ended.{Ended}
 use Rattle.parse.proofs.TagValues.{tag-absent, tag-refused, tag-read}

@@ -1,6 +1,6 @@
 -- One after the other (`TagValues`).
 use mathlib.Core.Path.{_∙_}
-use Rattle.tables.specs.Tables.{tables}
+use Rattle.sorted.specs.Tables.{tables}
 use Rattle.model.specs.Values.{given}
 use Rattle.parse.proofs.Finished.{nothing-fitting, nothing-shown}
 use Rattle.parse.proofs.TagValues.{tags-ended}

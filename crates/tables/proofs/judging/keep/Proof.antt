@@ -1,7 +1,7 @@
 -- The counts are the sizes of the graph name.
 use mathlib.Core.Path.{sym, ap, _∙_}
 use Prim.Native.Nat.{ℕ}
-use Rattle.tables.specs.Tables.{tables}
+use Rattle.sorted.specs.Tables.{tables}
 use Rattle.tables.specs.Judging.{outcome}
 use Rattle.tables.proofs.Judge.{complete-storable, kept-stored, kept-refused}
 use borrow.Author.Needs.{needs}

@@ -4,7 +4,7 @@ use mathlib.Core.Option.{Option, some, none}
 use Rattle.model.specs.Bytes.{Bytes}
 use Rattle.model.specs.Layout.{shown}
 use Rattle.model.specs.Outcome.{keptOr}
-use Rattle.tables.specs.Tables.{Tables, tables, graphIn}
+use Rattle.sorted.specs.Tables.{Tables, tables, graphIn}
 use Rattle.tables.specs.Judging.{owned, Good}
 use Rattle.tables.proofs.Judge.{complete-without, complete-placed, meaning-placed}
 use Rattle.record.proofs.Own.{named as an-own, unnamed as no-own}

@@ -6,8 +6,8 @@ use Rattle.model.specs.declared.Kind.the-variants.{Subgraph, Translation}
 use Rattle.model.specs.Bytes.{Bytes}
 use Rattle.model.specs.Record.{bodies}
 use Rattle.model.specs.Layout.{shown}
-use Rattle.tables.specs.declared.putting.Sizes.{Sizes}
-use Rattle.tables.specs.Tables.{tables}
+use Rattle.sorted.specs.declared.putting.Sizes.{Sizes}
+use Rattle.sorted.specs.Tables.{tables}
 use Rattle.tables.specs.Loading.{sizesOf, Loaded}
 use Rattle.tables.proofs.Records.{shown-names, shown-count, pairs-counted}
 use Rattle.tables.proofs.Loaded.{same-room, loaded}

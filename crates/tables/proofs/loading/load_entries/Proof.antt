@@ -4,7 +4,7 @@ use Prim.Native.Nat.{ℕ, _+_, _-_, _≤_}
 use lib.ListN.{length, take, length-set}
 use Rattle.model.specs.Layout.{nameCount, entryLength, entryAt}
 use Rattle.record.specs.Test.{entriesOf}
-use Rattle.tables.specs.Tables.{pairsIn}
+use Rattle.sorted.specs.Tables.{pairsIn}
 use Rattle.tables.proofs.Records.{is-held}
 use Rattle.tables.proofs.Loaded.{numbers-turn, numbers-all, entry-read, length-entriesOf}
 use native.Mathlib.Omega.{arith}

@@ -5,7 +5,7 @@ use lib.ListN.{length, take, drop, length-set}
 use Rattle.record.specs.Test.{pairsAt}
 use Rattle.model.specs.Layout.{recordLength, pairLength, pairCount, tableAt}
 use Rattle.record.proofs.Words.{length-rowsAt, getD-rowsAt}
-use Rattle.tables.specs.Tables.{pairsIn}
+use Rattle.sorted.specs.Tables.{pairsIn}
 use Rattle.tables.specs.Loading.{pairsOfKind}
 use Rattle.tables.proofs.Records.{is-held, pair-inside}
 use Rattle.tables.proofs.Loaded.{numbers-turn, numbers-all}

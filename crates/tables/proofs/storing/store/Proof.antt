@@ -3,7 +3,7 @@ use mathlib.Core.Path.{ap, _∙_}
 use Prim.Native.Nat.{ℕ, _-_}
 use lib.ListN.{replicate}
 use Rattle.model.specs.Bytes.{put}
-use Rattle.tables.specs.Tables.{tables}
+use Rattle.sorted.specs.Tables.{tables}
 use Rattle.tables.proofs.Stored.{stored}
 use native.Mathlib.Omega.{arith}
 use borrow.Author.Needs.{needs}

@@ -7,7 +7,7 @@ use lib.Seq.{slice}
 use Rattle.model.specs.Bytes.{put}
 use Rattle.model.specs.Record.{bodies}
 use Rattle.text.proofs.Put.{put-none}
-use Rattle.tables.specs.Tables.{bodyIn, namesIn}
+use Rattle.sorted.specs.Tables.{bodyIn, namesIn}
 use Rattle.tables.proofs.Writing.{rest-empty, bodies-length, bodies-again}
 use borrow.Author.Needs.{needs}
 use native.Mathlib.Omega.{arith}

@@ -9,7 +9,7 @@ use Rattle.model.specs.Bytes.{Bytes, put}
 use Rattle.text.proofs.Put.{put-none}
 use Rattle.record.specs.Coded.{entryOf}
 use Rattle.record.proofs.Written.{entries-none}
-use Rattle.tables.specs.Tables.{bodyIn, namesIn}
+use Rattle.sorted.specs.Tables.{bodyIn, namesIn}
 use Rattle.tables.proofs.Writing.{rest-empty, body-short, entries-again}
 use borrow.Author.Needs.{needs}
 use native.Mathlib.Omega.{arith}

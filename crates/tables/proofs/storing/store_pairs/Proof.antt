@@ -9,7 +9,7 @@ use Rattle.model.specs.Bytes.{put}
 use Rattle.record.specs.Coded.{lePairs}
 use Rattle.text.proofs.Put.{put-none}
 use Rattle.record.proofs.Written.{pairs-none}
-use Rattle.tables.specs.Tables.{placesOf, pairsIn}
+use Rattle.sorted.specs.Tables.{placesOf, pairsIn}
 use Rattle.tables.proofs.Writing.{rest-empty, pairs-again}
 use borrow.Author.Needs.{needs}
 use native.Mathlib.Omega.{arith}

@@ -1,0 +1,3 @@
+-- Ascending numbers; the tables, what they show and what is put in.
+pub mod Sorted
+pub mod Tables
