@@ -5,6 +5,7 @@ use mathlib.Core.Option.{Option, some, none}
 use Prim.Native.Nat.{ℕ, zero, suc, _+_, _-_, _*_, _≤_, _<_}
 use native.Mathlib.Omega.{arith}
 use lib.ListN.{length}
+use Rattle.model.specs.Record.{maxNames}
 use Rattle.model.specs.declared.Kind.{Kind}
 use Rattle.model.specs.declared.Kind.the-variants.{Subgraph, Translation}
 use Rattle.model.specs.Bytes.{Bytes, sameBytes}
@@ -56,7 +57,7 @@ module _ (b : Bytes) (z : faultOf b ≡ 0) where
 
   -- the places of a pair, and where they stand, are small
   pub pair-small : (k : Kind) (i : ℕ) → i < pairCount k b
-      → (tableAt k b + pairLength * i + pairLength ≤ length b) × (fromPlace b (tableAt k b + pairLength * i) < 512) × (toPlace b (tableAt k b + pairLength * i) < 512)
+      → (tableAt k b + pairLength * i + pairLength ≤ length b) × (fromPlace b (tableAt k b + pairLength * i) < maxNames) × (toPlace b (tableAt k b + pairLength * i) < maxNames)
   pair-small k i h =
       let r = record-opened b z .0 in
       let w = pair-within b (shown b) (r .decoded) k i h in

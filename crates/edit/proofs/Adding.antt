@@ -7,7 +7,7 @@ use lib.Dec.{ltb}
 use borrow.Author.Tests.{lt-ltb}
 use Rattle.model.specs.declared.Kind.{Kind}
 use Rattle.model.specs.Bytes.{Bytes, compareBytes, isEmpty}
-use Rattle.model.specs.Record.{GraphName, insert, withPair, names, anyLong, judge}
+use Rattle.model.specs.Record.{GraphName, insert, withPair, names, anyLong, judge, maxNameBytes}
 use Rattle.model.specs.Layout.{shown, decode}
 use Rattle.model.specs.Opening.{isSome, faultOf}
 use Rattle.model.specs.Outcome.{Outcome, keptOr, addPair}
@@ -22,7 +22,7 @@ either-second false = refl
 
 -- a long name refuses an addition
 module _ (kind : Kind) (b from to : Bytes) (g : GraphName) where
-  judge-long : ltb 256 (length to) || (ltb 256 (length from) || anyLong (names g)) ≡ true → judge (withPair kind (record { from = from; to = to }) g) ≡ 11
+  judge-long : ltb maxNameBytes (length to) || (ltb maxNameBytes (length from) || anyLong (names g)) ≡ true → judge (withPair kind (record { from = from; to = to }) g) ≡ 11
   unfolding judge
   judge-long e =
       rw (
@@ -32,7 +32,7 @@ module _ (kind : Kind) (b from to : Bytes) (g : GraphName) where
         e,
       )
 
-  kept-long : ltb 256 (length to) || (ltb 256 (length from) || anyLong (names g)) ≡ true
+  kept-long : ltb maxNameBytes (length to) || (ltb maxNameBytes (length from) || anyLong (names g)) ≡ true
       → keptOr b (withPair kind (record { from = from; to = to }) g) ≡ outcome 11 b
   kept-long e = rw (judge-long e)
 
@@ -60,8 +60,8 @@ module _ (kind : Kind) (from to b : Bytes) where
       pub add-kept : addPair kind from to b ≡ keptOr b (withPair kind (record { from = from; to = to }) (shown b))
       add-kept = add-opened ∙ rw (empty-false from f, empty-false to t)
 
-      pub add-long-from : 256 < length from → addPair kind from to b ≡ outcome 11 b
-      add-long-from h = add-kept ∙ kept-long kind b from to (shown b) (rw (lt-ltb 256 (length from) h) (either-second (ltb 256 (length to))))
+      pub add-long-from : maxNameBytes < length from → addPair kind from to b ≡ outcome 11 b
+      add-long-from h = add-kept ∙ kept-long kind b from to (shown b) (rw (lt-ltb maxNameBytes (length from) h) (either-second (ltb maxNameBytes (length to))))
 
-      pub add-long-to : 256 < length to → addPair kind from to b ≡ outcome 11 b
-      add-long-to h = add-kept ∙ kept-long kind b from to (shown b) (rw (lt-ltb 256 (length to) h))
+      pub add-long-to : maxNameBytes < length to → addPair kind from to b ≡ outcome 11 b
+      add-long-to h = add-kept ∙ kept-long kind b from to (shown b) (rw (lt-ltb maxNameBytes (length to) h))

@@ -8,7 +8,7 @@ use lib.ListN.{length, length-append, replicate}
 use lib.Seq.{take-all}
 use borrow.Author.Tests.{lt-ltb, le-ltb}
 use Rattle.model.specs.Bytes.{Bytes}
-use Rattle.model.specs.Record.{insert, insertAll, empty, withName, names, judge, bodies}
+use Rattle.model.specs.Record.{insert, insertAll, empty, withName, names, judge, bodies, maxNameBytes, maxBodiesBytes}
 use Rattle.model.specs.Layout.{recordLength, encode}
 use Rattle.model.specs.Outcome.{freshOr, newRecord}
 use Rattle.model.specs.Statements.{Ascending}
@@ -23,31 +23,31 @@ module _ (name : Bytes) where
   unfolding names insertAll insert
   alone = refl
 
-  pub fresh-long : 256 < length name → freshOr (withName name empty) ≡ record { number = 11; buffer = replicate recordLength 0 }
+  pub fresh-long : maxNameBytes < length name → freshOr (withName name empty) ≡ record { number = 11; buffer = replicate recordLength 0 }
   unfolding judge
-  fresh-long h = rw (alone, lt-ltb 256 (length name) h)
+  fresh-long h = rw (alone, lt-ltb maxNameBytes (length name) h)
 
-  pub fresh-short : length name ≤ 256 → freshOr (withName name empty) ≡ record { number = 0; buffer = encode (withName name empty) }
+  pub fresh-short : length name ≤ maxNameBytes → freshOr (withName name empty) ≡ record { number = 0; buffer = encode (withName name empty) }
   unfolding judge
   fresh-short h =
       let l = length-append name [] in
-      rw (alone, le-ltb 256 (length name) h, le-ltb 22520 (length (bodies (name ∷ []))) (omega arith))
+      rw (alone, le-ltb maxNameBytes (length name) h, le-ltb maxBodiesBytes (length (bodies (name ∷ []))) (omega arith))
 
   module _ (b : Bytes) where
     pub new-wrong : (length b ≡ recordLength → ⊥) → newRecord name b ≡ record { number = 15; buffer = b }
     unfolding newRecord
     new-wrong n = rw (written-refused b n)
 
-    pub new-long : length b ≡ recordLength → 256 < length name → newRecord name b ≡ record { number = 11; buffer = replicate recordLength 0 }
+    pub new-long : length b ≡ recordLength → maxNameBytes < length name → newRecord name b ≡ record { number = 11; buffer = replicate recordLength 0 }
     unfolding newRecord
     new-long e h = rw (written-opened b e) (fresh-long h)
 
-    pub new-short : length b ≡ recordLength → length name ≤ 256 → newRecord name b ≡ record { number = 0; buffer = encode (withName name empty) }
+    pub new-short : length b ≡ recordLength → length name ≤ maxNameBytes → newRecord name b ≡ record { number = 0; buffer = encode (withName name empty) }
     unfolding newRecord
     new-short e h = rw (written-opened b e) (fresh-short h)
 
 -- tables of a short name alone, whose pool is the name
-module _ (name : Bytes) (short : length name ≤ 256) where
+module _ (name : Bytes) (short : length name ≤ maxNameBytes) where
   abbrev pub alone-tables : Tables
   alone-tables = tables (length name ∷ []) [] [] name (record { names = 1; bytes = length name; subgraph = 0; translation = 0 })
 
@@ -67,7 +67,7 @@ module _ (name : Bytes) (short : length name ≤ 256) where
       record {
         kept = record {
           order = tt;
-          short = rw (body-alone, le-ltb 256 (length name) short);
+          short = rw (body-alone, le-ltb maxNameBytes (length name) short);
           within = λ r m. ⊎-elim (λ (e : r ≡ length name). rw e (omega arith)) (λ (k : List·Memᴰ r []). absurd (List·Memᴰ·not-nil k)) (List·Memᴰ·cases-cons m);
           total = rw body-alone (omega arith);
           count = omega arith;

@@ -3,13 +3,13 @@ use mathlib.Core.Path.{_≡_, refl, ap, _∙_}
 use mathlib.Core.Bool.{Bool, true, false}
 use mathlib.Core.List.{List}
 use mathlib.Core.Option.{none}
-use Prim.Native.Nat.{ℕ, _≤_}
+use Prim.Native.Nat.{ℕ, _+_, _*_, _≤_}
 use native.Mathlib.Omega.{arith}
 use lib.ListN.{length}
 use Rattle.model.specs.declared.Kind.{Kind}
 use Rattle.model.specs.declared.Kind.the-variants.{Subgraph, Translation}
 use Rattle.model.specs.Bytes.{Bytes}
-use Rattle.model.specs.Record.{Pair, GraphName, names}
+use Rattle.model.specs.Record.{Pair, GraphName, names, maxNameBytes, maxNames, maxPairs, maxBodiesBytes}
 use Rattle.model.specs.Layout.{shown, decode}
 use Rattle.model.specs.Opening.{isSome}
 use Rattle.sorted.specs.declared.putting.Sizes.{Sizes}
@@ -54,7 +54,7 @@ module _ (kind : Kind) (u : Tables) (from to : Bytes) (pairing : Bool) where
   not-paired e = rw e (record { good = λ own g. g; graph = refl })
 
 pub pair-room : (s t : Sizes) (u w : Tables) (merging : Bool) (h : GraphName) (from to : Bytes) → s ≡ u .sizes → t ≡ sizesIf merging h → PairsMerged merging u h w
-    → ChangeRoom s t (w .refs) (w .subs) (w .trans) (w .pool) → length from ≤ 256 → length to ≤ 256 → PairRoom w from to
+    → ChangeRoom s t (w .refs) (w .subs) (w .trans) (w .pool) → length from ≤ maxNameBytes → length to ≤ maxNameBytes → PairRoom w from to
 pair-room s t u w merging h from to e d m r f g = record {
   from-short = f;
   to-short = g;
@@ -66,7 +66,7 @@ pair-room s t u w merging h from to e d m r f g = record {
 
 -- the tables at hand have room
 module _ (s t : Sizes) (refs subs trans : List ℕ) (pool : Bytes) where
-  pub small-room : FitSmall s t → length refs ≡ 132 → length subs ≡ 130 → length trans ≡ 130 → length pool ≡ 8960 → ChangeRoom s t refs subs trans pool
+  pub small-room : FitSmall s t → length refs ≡ 128 + 2 → length subs ≡ 128 + 1 → length trans ≡ 128 + 1 → length pool ≡ 8192 + 2 * maxNameBytes → ChangeRoom s t refs subs trans pool
   small-room f a b c d = record {
     count = omega (arith, f .names);
     room = omega (arith, f .bytes);
@@ -76,7 +76,7 @@ module _ (s t : Sizes) (refs subs trans : List ℕ) (pool : Bytes) where
     small = omega arith;
   }
 
-  pub large-room : Limited s → Limited t → length refs ≡ 1028 → length subs ≡ 2050 → length trans ≡ 2050 → length pool ≡ 45808 → ChangeRoom s t refs subs trans pool
+  pub large-room : Limited s → Limited t → length refs ≡ 2 * maxNames + 2 → length subs ≡ 2 * maxPairs + 1 → length trans ≡ 2 * maxPairs + 1 → length pool ≡ 2 * maxBodiesBytes + 2 * maxNameBytes → ChangeRoom s t refs subs trans pool
   large-room f g a b c d = record {
     count = omega (arith, f .names, g .names);
     room = omega (arith, f .bytes, g .bytes);

@@ -3,11 +3,11 @@ use mathlib.Core.Path.{_≡_}
 use mathlib.Core.Bool.{Bool, true, false}
 use mathlib.Core.List.{List}
 use mathlib.Core.Option.{Option}
-use Prim.Native.Nat.{ℕ, _+_, _≤_}
+use Prim.Native.Nat.{ℕ, _+_, _*_, _≤_}
 use lib.ListN.{length}
 use Rattle.model.specs.Bytes.{Bytes}
 use Rattle.model.specs.declared.Kind.{Kind}
-use Rattle.model.specs.Record.{Pair, GraphName, withPair}
+use Rattle.model.specs.Record.{Pair, GraphName, withPair, maxNameBytes, maxNames, maxPairs, maxBodiesBytes}
 use Rattle.model.specs.Layout.{shown, decode}
 use Rattle.model.specs.Opening.{isSome}
 use Rattle.model.specs.Outcome.{Outcome, keptOr}
@@ -30,24 +30,24 @@ changeOf b merging c pairing kind from to = keptOr b (pairedIf pairing kind (rec
 pub record Changeable (b : Bytes) (merging : Bool) (c from to : Bytes) : Type 0 where
   pub own : isSome (decode b) ≡ true
   pub other : merging ≡ true → isSome (decode c) ≡ true
-  pub from-short : length from ≤ 256
-  pub to-short : length to ≤ 256
+  pub from-short : length from ≤ maxNameBytes
+  pub to-short : length to ≤ maxNameBytes
 
 -- there is room for both, and for a pair more with its two names
 abbrev pub ChangeRoom : Sizes → Sizes → List ℕ → List ℕ → List ℕ → Bytes → Type 0
 ChangeRoom s t = TableRoom (record {
-  names = s .names + t .names + 3;
-  bytes = s .bytes + t .bytes + 512;
+  names = s .names + t .names + 2;
+  bytes = s .bytes + t .bytes + 2 * maxNameBytes;
   subgraph = s .subgraph + t .subgraph + 1;
   translation = s .translation + t .translation + 1;
 })
 
 -- the sizes of a record are within the limits of docs/FORMAT.md
 pub record Limited (s : Sizes) : Type 0 where
-  pub names : s .names ≤ 512
-  pub bytes : s .bytes ≤ 22520
-  pub subgraph : s .subgraph ≤ 1024
-  pub translation : s .translation ≤ 1024
+  pub names : s .names ≤ maxNames
+  pub bytes : s .bytes ≤ maxBodiesBytes
+  pub subgraph : s .subgraph ≤ maxPairs
+  pub translation : s .translation ≤ maxPairs
 
 -- two graph names of these sizes fit the small tables together
 pub record FitSmall (s t : Sizes) : Type 0 where

@@ -1,45 +1,52 @@
-// The arrays that the tables of a change stand in: large ones for any two records, and small ones, which are cleared sooner.
+// The arrays that the tables of a change stand in: large ones for any two records, and small ones, which are cleared sooner. All have room
+// for a pair more, with its two names.
+use record::MAX_BODIES_BYTES;
+use record::MAX_NAME_BYTES;
+use record::MAX_NAMES;
+use record::MAX_PAIRS;
 ghost use mathlib.Core.Path.{_≡_};
+ghost use Prim.Native.Nat.{_+_, _*_};
 ghost use lib.ListN.{length};
+ghost use Rattle.model.specs.Record.{maxNameBytes, maxNames, maxPairs, maxBodiesBytes};
 
-// A table with room for the names of two full records and four more.
-pub(crate) fn name_table() -> [u32; 1028]
-    ensures { λ r. ⌜ length r ≡ 1028 ⌝ }
+// A table for the names of two full records.
+pub(crate) fn name_table() -> [u32; 2 * MAX_NAMES + 2]
+    ensures { λ r. ⌜ length r ≡ 2 * maxNames + 2 ⌝ }
 {
-    [0; 1028]
+    [0; 2 * MAX_NAMES + 2]
 }
 
-// A table with room for the pairs of one kind of two full records and two more.
-pub(crate) fn pair_table() -> [u32; 2050]
-    ensures { λ r. ⌜ length r ≡ 2050 ⌝ }
+// A table for the pairs of one kind of two full records.
+pub(crate) fn pair_table() -> [u32; 2 * MAX_PAIRS + 1]
+    ensures { λ r. ⌜ length r ≡ 2 * maxPairs + 1 ⌝ }
 {
-    [0; 2050]
+    [0; 2 * MAX_PAIRS + 1]
 }
 
-// A pool with room for the bodies of two full records and three more of the longest.
-pub(crate) fn pool() -> [u8; 45808]
-    ensures { λ r. ⌜ length r ≡ 45808 ⌝ }
+// A pool for the names of two full records.
+pub(crate) fn pool() -> [u8; 2 * MAX_BODIES_BYTES + 2 * MAX_NAME_BYTES]
+    ensures { λ r. ⌜ length r ≡ 2 * maxBodiesBytes + 2 * maxNameBytes ⌝ }
 {
-    [0; 45808]
+    [0; 2 * MAX_BODIES_BYTES + 2 * MAX_NAME_BYTES]
 }
 
-// A small table of names: 128 and four more.
-pub(crate) fn small_name_table() -> [u32; 132]
-    ensures { λ r. ⌜ length r ≡ 132 ⌝ }
+// A small table of names.
+pub(crate) fn small_name_table() -> [u32; 128 + 2]
+    ensures { λ r. ⌜ length r ≡ 128 + 2 ⌝ }
 {
-    [0; 132]
+    [0; 128 + 2]
 }
 
-// A small table of pairs of one kind: 128 and two more.
-pub(crate) fn small_pair_table() -> [u32; 130]
-    ensures { λ r. ⌜ length r ≡ 130 ⌝ }
+// A small table of pairs of one kind.
+pub(crate) fn small_pair_table() -> [u32; 128 + 1]
+    ensures { λ r. ⌜ length r ≡ 128 + 1 ⌝ }
 {
-    [0; 130]
+    [0; 128 + 1]
 }
 
-// A small pool: 8,192 bytes, and three more names of the longest.
-pub(crate) fn small_pool() -> [u8; 8960]
-    ensures { λ r. ⌜ length r ≡ 8960 ⌝ }
+// A small pool.
+pub(crate) fn small_pool() -> [u8; 8192 + 2 * MAX_NAME_BYTES]
+    ensures { λ r. ⌜ length r ≡ 8192 + 2 * maxNameBytes ⌝ }
 {
-    [0; 8960]
+    [0; 8192 + 2 * MAX_NAME_BYTES]
 }

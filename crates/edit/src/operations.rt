@@ -2,6 +2,7 @@
 // `new` leaves the empty record on 11.
 use crate::changing::change;
 use model::Kind;
+use record::MAX_NAME_BYTES;
 use record::RECORD_LENGTH;
 use record::has_name;
 use record::own_name;
@@ -15,7 +16,7 @@ ghost use mathlib.Core.Bool.{true};
 ghost use Prim.Native.Nat.{_≤_};
 ghost use lib.ListN.{length};
 ghost use Rattle.model.specs.Opening.{isSome};
-ghost use Rattle.model.specs.Record.{empty, withName, withPair, withRelationships};
+ghost use Rattle.model.specs.Record.{empty, withName, withPair, withRelationships, maxNameBytes};
 ghost use Rattle.model.specs.Layout.{recordLength, shown, encode, decode};
 ghost use Rattle.tables.specs.Judging.{outcome};
 ghost use Rattle.model.specs.Outcome.{keptOr, nameOr, addPair, addSubgraph, addTranslation, addRelationships, relate, makeSubgraphOf, addTranslationTo, newRecord};
@@ -34,10 +35,10 @@ fn add(kind: Kind, buffer: &mut [u8], from: &[u8], to: &[u8]) -> u32
     if to.len() == 0 {
         return 0;
     }
-    if 256 < from.len() {
+    if MAX_NAME_BYTES < from.len() {
         return 11;
     }
-    if 256 < to.len() {
+    if MAX_NAME_BYTES < to.len() {
         return 11;
     }
     change(buffer, false, b"", true, kind, from, to)
@@ -72,10 +73,10 @@ pub fn add_relationships(buffer: &mut [u8], other: &[u8]) -> u32
 }
 
 // An array for an own name.
-fn name_array() -> [u8; 256]
-    ensures { λ r. ⌜ length r ≡ 256 ⌝ }
+fn name_array() -> [u8; MAX_NAME_BYTES]
+    ensures { λ r. ⌜ length r ≡ maxNameBytes ⌝ }
 {
-    [0; 256]
+    [0; MAX_NAME_BYTES]
 }
 
 // Adds all pairs of the parent and the pair of the two own names.
@@ -125,7 +126,7 @@ pub fn add_translation_to(buffer: &mut [u8], parent: &[u8]) -> u32
 
 // Writes the record of a short name alone, from tables of that name alone: it is their pool.
 fn write_name(name: &[u8], buffer: &mut [u8])
-    requires { ⌜ (length (now name) ≤ 256) × (length (now buffer) ≡ recordLength) ⌝ }
+    requires { ⌜ (length (now name) ≤ maxNameBytes) × (length (now buffer) ≡ recordLength) ⌝ }
     ensures { λ _. ⌜ now (buffer .exit) ≡ encode (withName (now (name .entry)) empty) ⌝ }
 {
     let refs = [name.len() as u32];
@@ -146,7 +147,7 @@ pub fn new(name: &[u8], buffer: &mut [u8]) -> u32
     if buffer.len() != RECORD_LENGTH {
         return 15;
     }
-    if 256 < name.len() {
+    if MAX_NAME_BYTES < name.len() {
         clear(buffer, 0);
         return 11;
     }

@@ -11,7 +11,7 @@ use borrow.Author.Tests.{ltb-false, le-ltb}
 use Rattle.model.specs.declared.Kind.{Kind}
 use Rattle.model.specs.Questions.{pairsOf}
 use Rattle.model.specs.Bytes.{Bytes}
-use Rattle.model.specs.Record.{Pair, GraphName, names, anyLong, judge, ownName, pairNames}
+use Rattle.model.specs.Record.{Pair, GraphName, names, anyLong, judge, ownName, pairNames, maxNameBytes}
 use Rattle.text.proofs.Tests.{either-false}
 use Rattle.record.proofs.Names.{allNames, names-ascending, names-members, own-listed, pair-listed}
 use Rattle.record.proofs.Sizes.{Sizes, judge-sizes, sizes-judge}
@@ -21,13 +21,13 @@ use Rattle.text.proofs.Total.{total, total-count, total-bodies, ascending-once,
 abbrev pub Among : {A : Type 0} → List A → List A → Type 0
 Among {A} xs ys = (z : A) → List·Memᴰ z xs → List·Memᴰ z ys
 
-short-names : (ns : List Bytes) → anyLong ns ≡ false ↔ ((n : Bytes) → List·Memᴰ n ns → length n ≤ 256)
+short-names : (ns : List Bytes) → anyLong ns ≡ false ↔ ((n : Bytes) → List·Memᴰ n ns → length n ≤ maxNameBytes)
 short-names [] = (λ e n m. absurd (List·Memᴰ·not-nil m), λ h. refl)
 short-names (x ∷ xs) = (
   λ e n m.
       let p = either-false _ _ e in
-      ⊎-elim (λ (d : n ≡ x). omega (arith, ltb-false 256 (length x) (p .0), ap length d)) (short-names xs .0 (p .1) n) (List·Memᴰ·cases-cons m),
-  λ h. rw (le-ltb 256 (length x) (h x (List·Memᴰ·head refl)), short-names xs .1 (λ n m. h n (List·Memᴰ·tail m))),
+      ⊎-elim (λ (d : n ≡ x). omega (arith, ltb-false maxNameBytes (length x) (p .0), ap length d)) (short-names xs .0 (p .1) n) (List·Memᴰ·cases-cons m),
+  λ h. rw (le-ltb maxNameBytes (length x) (h x (List·Memᴰ·head refl)), short-names xs .1 (λ n m. h n (List·Memᴰ·tail m))),
 )
 
 -- fewer names and fewer pairs are within the sizes as well

@@ -11,9 +11,10 @@ ghost use Rattle.text.specs.Appending.{Appends};
 ghost use Rattle.export.specs.Words.{lineWords, numberWords, quoted};
 ghost use Rattle.export.specs.Answers.{Answers};
 
-// Where the words of each number start among all words, and how long they are.
+// Where the words of each number start among all words.
 const STARTS: [usize; 11] = [0, 0, 19, 41, 66, 90, 117, 147, 181, 218, 249];
 
+// How long the words of each number are.
 const SIZES: [usize; 11] = [0, 19, 22, 25, 24, 27, 30, 34, 37, 31, 34];
 
 // Appends the words that name the line, for the numbers 1 and 2.

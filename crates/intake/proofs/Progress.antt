@@ -14,7 +14,7 @@ use borrow.Author.Tests.{lt-ltb, le-ltb, ltb-false, eqb-true}
 use Rattle.model.specs.declared.Kind.{Kind}
 use Rattle.model.specs.declared.Kind.the-variants.{Subgraph, Translation}
 use Rattle.model.specs.Bytes.{Bytes, compareBytes, put}
-use Rattle.model.specs.Record.{Pair, GraphName, insert, names, anyLong, bodies, withName, withPair, judge}
+use Rattle.model.specs.Record.{Pair, GraphName, insert, names, anyLong, bodies, withName, withPair, judge, maxNameBytes, maxNames, maxPairs, maxBodiesBytes}
 use Rattle.model.specs.Statements.{Ascending}
 use Rattle.model.specs.Reading.{took, wrong, judged}
 use Rattle.text.proofs.Order.{bytes-order}
@@ -81,9 +81,9 @@ unfolding put
 own-kept own x = rw (add-one (length x)) (ap some (take-append-seam x (drop (0 + length x) own)))
 
 -- copied into its buffer, the name is the own name
-pub name-taken : (ns : List Bytes) (sizes : Sizes) (own own′ x : Bytes) (size : ℕ) → size ≡ 0 + length x → own′ ≡ put own 0 x → length x ≤ 256
+pub name-taken : (ns : List Bytes) (sizes : Sizes) (own own′ x : Bytes) (size : ℕ) → size ≡ 0 + length x → own′ ≡ put own 0 x → length x ≤ maxNameBytes
     → stateTaken (faultWith (ownOf own′ (size + 1)) ns sizes) (record { sizes = sizes; own = size + 1 }) ≡ nameTaken ns sizes x
-name-taken ns sizes own own′ x size e d h = let n : size ≡ length x = omega arith in rw (n, d, own-kept own x, le-ltb 256 (length x) h)
+name-taken ns sizes own own′ x size e d h = let n : size ≡ length x = omega arith in rw (n, d, own-kept own x, le-ltb maxNameBytes (length x) h)
 
 judged-long : (g : GraphName) → anyLong (names g) ≡ true → judged g ≡ wrong 11
 unfolding judge
@@ -116,16 +116,16 @@ module _ (refs subs trans : List ℕ) (pool own : Bytes) (sizes : Sizes) (n : �
   abbrev before : GraphName
   before = graphNow (tables refs subs trans pool sizes) own n
 
-  pub name-progress : (own′ x : Bytes) (r : FieldTaken) → r ≡ nameTaken (namesIn pool (sizes .names) refs) sizes x → (length x ≤ 256 → own′ ≡ put own 0 x)
+  pub name-progress : (own′ x : Bytes) (r : FieldTaken) → r ≡ nameTaken (namesIn pool (sizes .names) refs) sizes x → (length x ≤ maxNameBytes → own′ ≡ put own 0 x)
       → TakenAs (tables refs subs trans pool) own′ r (judged (withName x before))
-  name-progress own′ x r e d = go (ltb 256 (length x)) refl
+  name-progress own′ x r e d = go (ltb maxNameBytes (length x)) refl
     where
-      go : (b : Bool) → ltb 256 (length x) ≡ b → TakenAs (tables refs subs trans pool) own′ r (judged (withName x before))
+      go : (b : Bool) → ltb maxNameBytes (length x) ≡ b → TakenAs (tables refs subs trans pool) own′ r (judged (withName x before))
       go true l =
           let m : anyLong (names (withName x before)) ≡ true = ap anyLong (names-owned (some x) before) ∙ any-insert x (names (owned none before)) ∙ rw l in
           rw (e, l, judged-long (withName x before) m) (record { same = refl; fitting = tt })
       go false l =
-          let s = ltb-false 256 (length x) l in
+          let s = ltb-false maxNameBytes (length x) l in
           let k : ownOf own′ (length x + 1) ≡ some x = rw (d s) (own-kept own x) in
           state-taken refs subs trans pool own′ (record { sizes = sizes; own = length x + 1 })
           (record {
@@ -144,7 +144,7 @@ module _ (refs subs trans : List ℕ) (pool own : Bytes) (sizes : Sizes) (n : �
   -- ------------------------------------------------------------------ a pair
 
   -- what is in use is within the sizes of docs/FORMAT.md, also with the own name
-  pub in-use : (sizes .names ≤ 512) × (sizes .bytes ≤ 22520) × (sizes .subgraph ≤ 1024) × (sizes .translation ≤ 1024)
+  pub in-use : (sizes .names ≤ maxNames) × (sizes .bytes ≤ maxBodiesBytes) × (sizes .subgraph ≤ maxPairs) × (sizes .translation ≤ maxPairs)
   in-use =
       let good = h .held .good in
       let t = tables refs subs trans pool sizes in
@@ -159,7 +159,7 @@ module _ (refs subs trans : List ℕ) (pool own : Bytes) (sizes : Sizes) (n : �
       )
 
   -- so there is room for two names and a pair more
-  pub pair-room : (from to : Bytes) → length from ≤ 256 → length to ≤ 256 → PairRoom (tables refs subs trans pool sizes) from to
+  pub pair-room : (from to : Bytes) → length from ≤ maxNameBytes → length to ≤ maxNameBytes → PairRoom (tables refs subs trans pool sizes) from to
   pair-room from to f g = record {
     from-short = f;
     to-short = g;
@@ -174,17 +174,17 @@ module _ (refs subs trans : List ℕ) (pool own : Bytes) (sizes : Sizes) (n : �
     pair = record { from = from; to = to }
 
     -- a long name of the pair's is one of the names
-    long-pair : ltb 256 (length to) || ltb 256 (length from) ≡ true → (at : Sizes → Tables) → TakenAs at own (Wrong 11) (judged (withPair k pair before))
+    long-pair : ltb maxNameBytes (length to) || ltb maxNameBytes (length from) ≡ true → (at : Sizes → Tables) → TakenAs at own (Wrong 11) (judged (withPair k pair before))
     long-pair l at =
         let m : anyLong (names (withPair k pair before)) ≡ true =
-        ap anyLong (names-withPair k pair before) ∙ any-insert to (insert compareBytes from (names before)) ∙ rw (any-insert from (names before)) (either-more (ltb 256 (length to)) (ltb 256 (length from)) (anyLong (names before)) l) in
+        ap anyLong (names-withPair k pair before) ∙ any-insert to (insert compareBytes from (names before)) ∙ rw (any-insert from (names before)) (either-more (ltb maxNameBytes (length to)) (ltb maxNameBytes (length from)) (anyLong (names before)) l) in
         rw (judged-long (withPair k pair before) m) (record { same = refl; fitting = tt })
 
-    pub long-from : (at : Sizes → Tables) → 256 < length from → TakenAs at own (Wrong 11) (judged (withPair k pair before))
-    long-from at l = long-pair (either-true (ltb 256 (length to)) (ltb 256 (length from)) .1 (inr (lt-ltb 256 (length from) l))) at
+    pub long-from : (at : Sizes → Tables) → maxNameBytes < length from → TakenAs at own (Wrong 11) (judged (withPair k pair before))
+    long-from at l = long-pair (either-true (ltb maxNameBytes (length to)) (ltb maxNameBytes (length from)) .1 (inr (lt-ltb maxNameBytes (length from) l))) at
 
-    pub long-to : (at : Sizes → Tables) → 256 < length to → TakenAs at own (Wrong 11) (judged (withPair k pair before))
-    long-to at l = long-pair (rw (lt-ltb 256 (length to) l)) at
+    pub long-to : (at : Sizes → Tables) → maxNameBytes < length to → TakenAs at own (Wrong 11) (judged (withPair k pair before))
+    long-to at l = long-pair (rw (lt-ltb maxNameBytes (length to) l)) at
 
     -- the tables with the pair put in
     module _ (refs′ subs′ trans′ : List ℕ) (pool′ : Bytes) (sizes′ : Sizes)

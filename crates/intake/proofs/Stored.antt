@@ -6,7 +6,7 @@ use Prim.Native.Nat.{ℕ, _+_, _-_, _≤_}
 use native.Mathlib.Omega.{arith}
 use lib.ListN.{length, take, drop, length-take}
 use Rattle.model.specs.Bytes.{Bytes}
-use Rattle.model.specs.Record.{names, bodies}
+use Rattle.model.specs.Record.{names, bodies, maxNameBytes}
 use Rattle.record.proofs.Sizes.{judge-sizes}
 use Rattle.record.specs.Coded.{meaning}
 use Rattle.sorted.specs.declared.putting.Sizes.{Sizes}
@@ -39,7 +39,7 @@ module _ (refs subs trans : List ℕ) (pool own : Bytes) (sizes : Sizes) (n : �
   graph-none e = rw e
 
   module _ (m : n ≡ 0 → ⊥) (x : Bytes) (s : x ≡ take (n - 1) (drop 0 own)) where
-    name-size : length x ≤ 256
+    name-size : length x ≤ maxNameBytes
     name-size = omega (arith, ap length s, length-take (n - 1) own, h .held .short)
 
     pub name-room : NameRoom t x

@@ -3,11 +3,11 @@ use mathlib.Core.Path.{_≡_}
 use mathlib.Core.Bool.{cond}
 use mathlib.Core.List.{List}
 use mathlib.Core.Option.{Option, some, none}
-use Prim.Native.Nat.{ℕ, zero, suc, _+_, _≤_}
+use Prim.Native.Nat.{ℕ, zero, suc, _+_, _*_, _≤_}
 use lib.ListN.{length, take}
 use lib.Dec.{eqb, ltb}
 use Rattle.model.specs.Bytes.{Bytes}
-use Rattle.model.specs.Record.{GraphName, judge}
+use Rattle.model.specs.Record.{GraphName, judge, maxNameBytes, maxNames, maxPairs, maxBodiesBytes}
 use Rattle.model.specs.Reading.{Taken, took, wrong}
 use Rattle.sorted.specs.declared.putting.Sizes.{Sizes}
 use Rattle.sorted.specs.Tables.{Tables, graphIn}
@@ -27,11 +27,11 @@ graphNow t own n = owned (ownOf own n) (graphIn t)
 
 -- the lengths of the tables and of the buffer for the own name: a full record, and a field more
 pub record Lengths (rs ss ts : List ℕ) (bytes name : Bytes) : Type 0 where
-  pub refs : length rs ≡ 516
-  pub subs : length ss ≡ 1026
-  pub trans : length ts ≡ 1026
-  pub pool : length bytes ≡ 23040
-  pub own : length name ≡ 256
+  pub refs : length rs ≡ maxNames + 2
+  pub subs : length ss ≡ maxPairs + 1
+  pub trans : length ts ≡ maxPairs + 1
+  pub pool : length bytes ≡ maxBodiesBytes + 2 * maxNameBytes
+  pub own : length name ≡ maxNameBytes
 
 -- nothing taken yet
 abbrev pub nothingTaken : State
@@ -47,7 +47,7 @@ stateTaken number state = cond (eqb number 0) (Took state) (Wrong number)
 
 -- an own name taken
 abbrev pub nameTaken : List Bytes → Sizes → Bytes → FieldTaken
-nameTaken ns sizes x = cond (ltb 256 (length x)) (Wrong 11) (stateTaken (faultWith (some x) ns sizes) (record { sizes = sizes; own = length x + 1 }))
+nameTaken ns sizes x = cond (ltb maxNameBytes (length x)) (Wrong 11) (stateTaken (faultWith (some x) ns sizes) (record { sizes = sizes; own = length x + 1 }))
 
 -- the tables are good, and the own name is within its buffer
 pub record Held (t : Tables) (own : Bytes) (n : ℕ) : Type 0 where

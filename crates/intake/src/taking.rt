@@ -1,12 +1,16 @@
 // A field taken into the working tables: its own name is kept apart, its pair put in, and the sizes judged on what stands then.
 use fields::Content;
 use model::Kind;
+use record::MAX_BODIES_BYTES;
+use record::MAX_NAME_BYTES;
+use record::MAX_NAMES;
+use record::MAX_PAIRS;
 use sorted::Sizes;
 ghost use mathlib.Core.Path.{_≡_};
-ghost use Prim.Native.Nat.{_+_, _≤_};
+ghost use Prim.Native.Nat.{_+_, _*_, _≤_};
 ghost use lib.ListN.{length};
 ghost use Rattle.model.specs.Bytes.{put};
-ghost use Rattle.model.specs.Record.{withPair};
+ghost use Rattle.model.specs.Record.{withPair, maxNameBytes, maxNames, maxPairs, maxBodiesBytes};
 ghost use Rattle.model.specs.Reading.{judged};
 ghost use Rattle.tables.specs.Judging.{NamesKept};
 ghost use Rattle.sorted.specs.Tables.{tables, namesIn};
@@ -26,30 +30,32 @@ pub enum FieldTaken {
     Wrong(usize),
 }
 
-// Tables with room for the names and pairs of a full record and of a field more, and a pool for their bodies.
-pub fn name_table() -> [u32; 516]
-    ensures { λ r. ⌜ length r ≡ 516 ⌝ }
+// A table for the names of a full record and of a field more.
+pub fn name_table() -> [u32; MAX_NAMES + 2]
+    ensures { λ r. ⌜ length r ≡ maxNames + 2 ⌝ }
 {
-    [0; 516]
+    [0; MAX_NAMES + 2]
 }
 
-pub fn pair_table() -> [u32; 1026]
-    ensures { λ r. ⌜ length r ≡ 1026 ⌝ }
+// A table for the pairs of one kind of a full record and of a field more.
+pub fn pair_table() -> [u32; MAX_PAIRS + 1]
+    ensures { λ r. ⌜ length r ≡ maxPairs + 1 ⌝ }
 {
-    [0; 1026]
+    [0; MAX_PAIRS + 1]
 }
 
-pub fn pool() -> [u8; 23040]
-    ensures { λ r. ⌜ length r ≡ 23040 ⌝ }
+// A pool for the names of a full record and of a field more.
+pub fn pool() -> [u8; MAX_BODIES_BYTES + 2 * MAX_NAME_BYTES]
+    ensures { λ r. ⌜ length r ≡ maxBodiesBytes + 2 * maxNameBytes ⌝ }
 {
-    [0; 23040]
+    [0; MAX_BODIES_BYTES + 2 * MAX_NAME_BYTES]
 }
 
 // A buffer for an own name.
-pub fn own_buffer() -> [u8; 256]
-    ensures { λ r. ⌜ length r ≡ 256 ⌝ }
+pub fn own_buffer() -> [u8; MAX_NAME_BYTES]
+    ensures { λ r. ⌜ length r ≡ maxNameBytes ⌝ }
 {
-    [0; 256]
+    [0; MAX_NAME_BYTES]
 }
 
 // Nothing taken yet.
@@ -92,10 +98,10 @@ fn take_state(refs: &[u32], pool: &[u8], own: &[u8], state: State) -> FieldTaken
 
 // An own name, in the place of the one before.
 fn take_name(refs: &[u32], pool: &[u8], own: &mut [u8], sizes: Sizes, name: &[u8]) -> FieldTaken
-    requires { ⌜ NamesKept (now refs) (now pool) sizes × (length (now own) ≡ 256) ⌝ }
-    ensures { λ r. ⌜ (r ≡ nameTaken (namesIn (now (pool .entry)) (sizes .names) (now (refs .entry))) sizes (now (name .entry))) × (length (now (name .entry)) ≤ 256 → now (own .exit) ≡ put (now (own .entry)) 0 (now (name .entry))) ⌝ }
+    requires { ⌜ NamesKept (now refs) (now pool) sizes × (length (now own) ≡ maxNameBytes) ⌝ }
+    ensures { λ r. ⌜ (r ≡ nameTaken (namesIn (now (pool .entry)) (sizes .names) (now (refs .entry))) sizes (now (name .entry))) × (length (now (name .entry)) ≤ maxNameBytes → now (own .exit) ≡ put (now (own .entry)) 0 (now (name .entry))) ⌝ }
 {
-    if 256 < name.len() {
+    if MAX_NAME_BYTES < name.len() {
         return FieldTaken::Wrong(11);
     }
     let size = text::copy(own, 0, name);
@@ -125,10 +131,10 @@ fn take_pair(
     requires { ⌜ FittingState (tables (now refs) (now subs) (now trans) (now pool) (state .sizes)) (now own) (state .own) ⌝ }
     ensures { λ r. ⌜ TakenAs (tables (now (refs .exit)) (now (subs .exit)) (now (trans .exit)) (now (pool .exit))) (now (own .entry)) r (judged (withPair kind (record { from = now (from .entry); to = now (to .entry) }) (graphNow (tables (now (refs .entry)) (now (subs .entry)) (now (trans .entry)) (now (pool .entry)) (state .sizes)) (now (own .entry)) (state .own)))) ⌝ }
 {
-    if 256 < from.len() {
+    if MAX_NAME_BYTES < from.len() {
         return FieldTaken::Wrong(11);
     }
-    if 256 < to.len() {
+    if MAX_NAME_BYTES < to.len() {
         return FieldTaken::Wrong(11);
     }
     let n = state.own;

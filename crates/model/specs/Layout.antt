@@ -1,4 +1,5 @@
 -- The record's bytes (docs/FORMAT.md, "Records"): its sizes and offsets, a meaning as bytes, and bytes as a meaning.
+use mathlib.Core.Path.{_≡_, refl}
 use mathlib.Core.Bool.{cond, _&&_}
 use mathlib.Core.List.{List, [], _∷_, _++_}
 use mathlib.Core.Option.{Option, some, none}
@@ -8,11 +9,11 @@ use Rattle.model.specs.declared.Kind.{Kind}
 use Rattle.model.specs.declared.Kind.the-variants.{Subgraph, Translation}
 use Rattle.model.specs.Bytes.{Bytes, sameBytes}
 use Rattle.model.specs.Numbers.{le16, number}
-use Rattle.model.specs.Record.{Pair, GraphName, names, bodies, isValid}
+use Rattle.model.specs.Record.{maxNames, maxPairs, maxBodiesBytes, Pair, GraphName, names, bodies, isValid}
 
 -- ------------------------------------------------------------------ sizes: no other definition knows these numbers
 
--- every record buffer has this length: the counts, 512 entries, 2,048 pairs, 22,520 bytes of names
+-- every record buffer has this length
 abbrev pub recordLength : ℕ
 recordLength = 32768
 
@@ -35,6 +36,10 @@ entryAt i = countsLength + entryLength * i
 -- where the bodies begin, after n entries and k pairs of both kinds together
 abbrev pub bodiesAfter : ℕ → ℕ → ℕ
 bodiesAfter n k = entryAt n + pairLength * k
+
+-- a record has room for the most names and the most pairs of both kinds, and no byte more
+pub record-length : recordLength ≡ bodiesAfter maxNames (2 * maxPairs) + maxBodiesBytes
+record-length = refl
 
 -- ------------------------------------------------------------------ a meaning as bytes
 

@@ -13,7 +13,7 @@ use Rattle.record.proofs.Opening.{written-opened, written-refused}
 use Rattle.model.specs.Opening.{hasSize}
 use Rattle.model.specs.Layout.{recordLength}
 use Rattle.model.specs.Bytes.{Bytes, sameBytes, split}
-use Rattle.model.specs.Record.{Pair, GraphName, empty, insertAll, withName, names, anyLong, bodies, judge}
+use Rattle.model.specs.Record.{Pair, GraphName, empty, insertAll, withName, names, anyLong, bodies, judge, maxNames, maxPairs, maxBodiesBytes}
 use Rattle.model.specs.Outcome.{refusalInto}
 use Rattle.model.specs.declared.Kind.the-variants.{Subgraph, Translation}
 use Rattle.model.specs.Reading.{Reading, done, refused, Taken, took, wrong, judged, twoParts, orWrong, addTo, isTyped, typedField, oneName, gafLine, afterTaken, afterReading, refuse, typedFields, isGafHead, lineFields, linesFrom, withoutLastEmpty, fromHeaderLines, tagRelations, tagValue, nameValue, fromTags}
@@ -34,9 +34,9 @@ pub judge-small : (g : GraphName) → judge g ≤ 14
 unfolding judge
 judge-small g =
     either (λ n. n ≤ 14) (anyLong (names g)) 11 _ (lit≤ tt)
-    (either (λ n. n ≤ 14) (ltb 512 (length (names g))) 12 _ (lit≤ tt)
-    (either (λ n. n ≤ 14) (ltb 1024 (length (g .subgraph)) || ltb 1024 (length (g .translation))) 13 _ (lit≤ tt)
-    (either (λ n. n ≤ 14) (ltb 22520 (length (bodies (names g)))) 14 0 (lit≤ tt) (lit≤ tt))))
+    (either (λ n. n ≤ 14) (ltb maxNames (length (names g))) 12 _ (lit≤ tt)
+    (either (λ n. n ≤ 14) (ltb maxPairs (length (g .subgraph)) || ltb maxPairs (length (g .translation))) 13 _ (lit≤ tt)
+    (either (λ n. n ≤ 14) (ltb maxBodiesBytes (length (bodies (names g)))) 14 0 (lit≤ tt) (lit≤ tt))))
 
 judged-small : (g : GraphName) → SmallTaken (judged g)
 judged-small g = go (eqb (judge g) 0) refl

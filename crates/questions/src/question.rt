@@ -12,7 +12,9 @@ use path_bytes::Reply;
 use record::fault_of_both;
 use record::own_place;
 use search::ask_named;
+ghost use Prim.Native.Nat.{_*_};
 ghost use lib.ListN.{length};
+ghost use Rattle.model.specs.Record.{maxNames, maxPairs};
 ghost use Rattle.model.specs.Outcome.{askSubgraph, askFull};
 ghost use Rattle.path_bytes.specs.Replies.{Replies};
 ghost use Rattle.search.specs.Questions.{Owned, RepliesOwn};
@@ -66,7 +68,7 @@ fn ask_small<'a>(b: &'a [u8], c: &'a [u8], full: bool, out: &mut [u8]) -> Reply
 
 // The question in tables for the names and pairs of any two records.
 fn ask_large<'a>(b: &'a [u8], c: &'a [u8], full: bool, out: &mut [u8]) -> Reply
-    requires { ⌜ Owned (now b) (now c) × Within (now b) (now c) 1024 2048 ⌝ }
+    requires { ⌜ Owned (now b) (now c) × Within (now b) (now c) (2 * maxNames) (2 * maxPairs) ⌝ }
     ensures { λ r. ⌜ RepliesOwn full (now (b .entry)) (now (c .entry)) (now (out .entry)) r (now (out .exit)) ⌝ }
 {
     let mut firsts = large_names();

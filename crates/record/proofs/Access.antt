@@ -11,7 +11,7 @@ use Rattle.model.specs.declared.Kind.{Kind}
 use Rattle.model.specs.declared.Kind.the-variants.{Subgraph, Translation}
 use Rattle.model.specs.Bytes.{Bytes}
 use Rattle.model.specs.Numbers.{number}
-use Rattle.model.specs.Record.{Pair, GraphName, names}
+use Rattle.model.specs.Record.{Pair, GraphName, names, maxNameBytes}
 use Rattle.model.specs.Layout.{bodyLength, bodyStart, countsLength, entryLength, pairLength, nameCount, ownNumber, recordLength, nameAt, pairsFrom, ownAt, shown, decode, bodiesAt, pairCount, tableAt}
 use Rattle.text.proofs.Places.{getD-member}
 use Rattle.record.specs.Test.{pairsAt, pairsOk, entriesOf, namesOf}
@@ -63,7 +63,7 @@ module _ (b : Bytes) (g : GraphName) (e : decode b ≡ some g) where
 
   -- a name's bytes lie within the buffer, and are few
   pub name-within : (i : ℕ) → i < nameCount b
-      → (bodiesAt b + bodyStart b i + bodyLength b i ≤ recordLength) × (bodyLength b i ≤ 256)
+      → (bodiesAt b + bodyStart b i + bodyLength b i ≤ recordLength) × (bodyLength b i ≤ maxNameBytes)
   name-within i k =
       let h = decode-held b g e in
       let l = length-rowsAt entryLength (nameCount b) (drop countsLength b) in

@@ -10,7 +10,7 @@ use native.Mathlib.Omega.{arith}
 use lib.ListN.{length, length-map}
 use Rattle.model.specs.declared.Kind.the-variants.{Subgraph, Translation}
 use Rattle.model.specs.Bytes.{Bytes, compareBytes}
-use Rattle.model.specs.Record.{Pair, GraphName, comparePairs, ascends, ownName, pairNames, names, anyLong, bodies}
+use Rattle.model.specs.Record.{Pair, GraphName, comparePairs, ascends, ownName, pairNames, names, anyLong, bodies, maxNames, maxPairs, maxBodiesBytes}
 use Rattle.model.specs.Statements.{Ascending, Valid}
 use Rattle.model.specs.Layout.{placeOf, ownPlace}
 use Rattle.text.proofs.Order.{bytes-order}
@@ -36,12 +36,12 @@ coded g = codedBy g (names g)
 
 -- what the test of a buffer asks of it
 pub record Fits (c : Coded) : Type 0 where
-  pub count : length (c .names) ≤ 512
+  pub count : length (c .names) ≤ maxNames
   pub own : c .own ≤ length (c .names)
-  pub subgraphs : length (c .subgraph) ≤ 1024
-  pub translations : length (c .translation) ≤ 1024
+  pub subgraphs : length (c .subgraph) ≤ maxPairs
+  pub translations : length (c .translation) ≤ maxPairs
   pub short : anyLong (c .names) ≡ false
-  pub room : length (bodies (c .names)) ≤ 22520
+  pub room : length (bodies (c .names)) ≤ maxBodiesBytes
   pub subgraph : pairsOk (length (c .names)) (c .subgraph) ≡ true
   pub translation : pairsOk (length (c .names)) (c .translation) ≡ true
   pub order : ascends compareBytes (c .names) ≡ true

@@ -9,7 +9,7 @@ use lib.Seq.{take-append-seam, drop-append-seam, drop-drop, length-take-le}
 use lib.Dec.{leb, ltb, eqb}
 use borrow.Author.Tests.{eq-eqb, eqb-true, leb-true, le-leb, ltb-false, le-ltb}
 use Rattle.model.specs.Bytes.{Bytes}
-use Rattle.model.specs.Record.{anyLong, bodies}
+use Rattle.model.specs.Record.{anyLong, bodies, maxNameBytes, maxBodiesBytes}
 use Rattle.model.specs.Layout.{recordLength, entries}
 use Rattle.text.proofs.Tests.{both-true, either-false}
 use Rattle.record.specs.Test.{bodyEnd, cut, Under}
@@ -38,15 +38,15 @@ cut-spans start [] r = refl
 cut-spans start (n ∷ ns) r =
     rw (append-assoc n (bodies ns) r, take-append-seam n (bodies ns ++ r), drop-append-seam n (bodies ns ++ r), cut-spans (start + length n) ns r)
 
-short : (m : ℕ) (t : Bool) → ltb 256 m || t ≡ false → (m ≤ 256) × (t ≡ false)
-short m t e = let (s, t) = either-false (ltb 256 m) t e in (ltb-false 256 m s, t)
+short : (m : ℕ) (t : Bool) → ltb maxNameBytes m || t ≡ false → (m ≤ maxNameBytes) × (t ≡ false)
+short m t e = let (s, t) = either-false (ltb maxNameBytes m) t e in (ltb-false maxNameBytes m s, t)
 
 pub bodyEnd-spans : (start : ℕ) (ns : List Bytes) → anyLong ns ≡ false → bodyEnd start (spans start ns) ≡ start + length (bodies ns)
 unfolding bodyEnd spans
 bodyEnd-spans start [] h = omega arith
 bodyEnd-spans start (n ∷ ns) h =
     let p = short (length n) (anyLong ns) h in
-    rw (eq-eqb start start refl, le-leb (length n) 256 (p .0), bodyEnd-spans (start + length n) ns (p .1), length-append n (bodies ns)) (omega arith)
+    rw (eq-eqb start start refl, le-leb (length n) maxNameBytes (p .0), bodyEnd-spans (start + length n) ns (p .1), length-append n (bodies ns)) (omega arith)
 
 pub under-spans : (start : ℕ) (ns : List Bytes) → anyLong ns ≡ false → start + length (bodies ns) < 65536 → Under 65536 (spans start ns)
 unfolding Under spans
@@ -58,20 +58,20 @@ under-spans start (n ∷ ns) h k =
 
 -- ------------------------------------------------------------------ from entries
 
-within : (t : Bool) (x : ℕ) → cond t x recordLength ≤ 22520 → (t ≡ true) × (x ≤ 22520)
+within : (t : Bool) (x : ℕ) → cond t x recordLength ≤ maxBodiesBytes → (t ≡ true) × (x ≤ maxBodiesBytes)
 within true x h = (refl, h)
 within false x h = absurd (omega arith)
 
 -- what bodyEnd says of the first entry and of the others
-first-entry : (e : ℕ × ℕ) (es : List (ℕ × ℕ)) (at : ℕ) → bodyEnd at (e ∷ es) ≤ 22520
-    → (e .0 ≡ at) × (e .1 ≤ 256) × (bodyEnd (at + e .1) es ≤ 22520) × (bodyEnd at (e ∷ es) ≡ bodyEnd (at + e .1) es)
+first-entry : (e : ℕ × ℕ) (es : List (ℕ × ℕ)) (at : ℕ) → bodyEnd at (e ∷ es) ≤ maxBodiesBytes
+    → (e .0 ≡ at) × (e .1 ≤ maxNameBytes) × (bodyEnd (at + e .1) es ≤ maxBodiesBytes) × (bodyEnd at (e ∷ es) ≡ bodyEnd (at + e .1) es)
 unfolding bodyEnd
 first-entry e es at h =
-    let p = within (eqb (e .0) at && leb (e .1) 256) (bodyEnd (at + e .1) es) h in
-    let q = both-true (eqb (e .0) at) (leb (e .1) 256) (p .0) in
-    (eqb-true (e .0) at (q .0), leb-true (e .1) 256 (q .1), p .1, rw (p .0))
+    let p = within (eqb (e .0) at && leb (e .1) maxNameBytes) (bodyEnd (at + e .1) es) h in
+    let q = both-true (eqb (e .0) at) (leb (e .1) maxNameBytes) (p .0) in
+    (eqb-true (e .0) at (q .0), leb-true (e .1) maxNameBytes (q .1), p .1, rw (p .0))
 
-at-most : (es : List (ℕ × ℕ)) (at : ℕ) → bodyEnd at es ≤ 22520 → at ≤ bodyEnd at es
+at-most : (es : List (ℕ × ℕ)) (at : ℕ) → bodyEnd at es ≤ maxBodiesBytes → at ≤ bodyEnd at es
 at-most [] at h = unfold bodyEnd in omega arith
 at-most (e ∷ es) at h = let p = first-entry e es at h in omega (arith, at-most es (at + e .1) (p .2))
 
@@ -81,7 +81,7 @@ pub record Cut (es : List (ℕ × ℕ)) (at : ℕ) (b : Bytes) : Type 0 where
   pub short : anyLong (cut es b) ≡ false
   pub whole : bodies (cut es b) ++ drop (bodyEnd at es - at) b ≡ b
 
-pub cut-holds : (es : List (ℕ × ℕ)) (at : ℕ) (b : Bytes) → bodyEnd at es ≤ 22520 → 22520 ≤ at + length b → Cut es at b
+pub cut-holds : (es : List (ℕ × ℕ)) (at : ℕ) (b : Bytes) → bodyEnd at es ≤ maxBodiesBytes → maxBodiesBytes ≤ at + length b → Cut es at b
 unfolding spans cut
 cut-holds [] at b h k = record { entries = refl; short = refl; whole = unfold bodyEnd in let z : at - at ≡ 0 = omega arith in rw z }
 cut-holds (e ∷ es) at b h k =
@@ -92,15 +92,15 @@ cut-holds (e ∷ es) at b h k =
     let rest = cut-holds es (at + e .1) (drop (e .1) b) (p .2) (rw length-drop (omega arith)) in
     record {
       entries = rw (l, rest .entries, ← p .0);
-      short = rw (l, le-ltb 256 (e .1) (p .1)) (rest .short);
+      short = rw (l, le-ltb maxNameBytes (e .1) (p .1)) (rest .short);
       whole =
           rw (append-assoc, z, ← drop-drop (bodyEnd (at + e .1) es - (at + e .1)) (e .1) b, rest .whole)
           (take-append-drop (e .1) b);
     }
 
 -- an entry lies between the first start and the end of the bodies, and is short
-pub entry-within : (es : List (ℕ × ℕ)) (at i : ℕ) → bodyEnd at es ≤ 22520 → i < length es
-    → (at ≤ getD es i (0, 0) .0) × (getD es i (0, 0) .0 + getD es i (0, 0) .1 ≤ bodyEnd at es) × (getD es i (0, 0) .1 ≤ 256)
+pub entry-within : (es : List (ℕ × ℕ)) (at i : ℕ) → bodyEnd at es ≤ maxBodiesBytes → i < length es
+    → (at ≤ getD es i (0, 0) .0) × (getD es i (0, 0) .0 + getD es i (0, 0) .1 ≤ bodyEnd at es) × (getD es i (0, 0) .1 ≤ maxNameBytes)
 entry-within [] at i h k = absurd (omega arith)
 entry-within (e ∷ es) at zero h k =
     let p = first-entry e es at h in
@@ -112,7 +112,7 @@ entry-within (e ∷ es) at (suc i) h k =
     (omega arith, omega arith, r .2)
 
 -- a name by its entry
-pub getD-cut : (es : List (ℕ × ℕ)) (at : ℕ) (b : Bytes) (i : ℕ) → bodyEnd at es ≤ 22520 → i < length es
+pub getD-cut : (es : List (ℕ × ℕ)) (at : ℕ) (b : Bytes) (i : ℕ) → bodyEnd at es ≤ maxBodiesBytes → i < length es
     → getD (cut es b) i [] ≡ take (getD es i (0, 0) .1) (drop (getD es i (0, 0) .0 - at) b)
 unfolding cut
 getD-cut [] at b i h k = absurd (omega arith)

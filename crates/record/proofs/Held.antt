@@ -6,7 +6,7 @@ use lib.ListN.{length, drop}
 use borrow.Author.Tests.{leb-true, le-leb, eqb-true, eq-eqb}
 use Rattle.text.specs.Blocks.{allZero}
 use Rattle.model.specs.Bytes.{Bytes, compareBytes}
-use Rattle.model.specs.Record.{ascends}
+use Rattle.model.specs.Record.{ascends, maxNames, maxPairs, maxBodiesBytes}
 use Rattle.text.proofs.Tests.{both-true}
 use Rattle.record.specs.Test.{bodyEnd, pairsOk, isUsed, every, entriesOf, subgraphOf, translationOf, namesOf, isRecord}
 use Rattle.model.specs.Layout.{nameCount, ownNumber, pairCount, recordLength, bodiesAt}
@@ -14,11 +14,11 @@ use Rattle.model.specs.declared.Kind.the-variants.{Subgraph, Translation}
 
 pub record Held (b : Bytes) : Type 0 where
   pub long : length b ≡ recordLength
-  pub count : nameCount b ≤ 512
+  pub count : nameCount b ≤ maxNames
   pub own : ownNumber b ≤ nameCount b
-  pub subgraphs : pairCount Subgraph b ≤ 1024
-  pub translations : pairCount Translation b ≤ 1024
-  pub row : bodyEnd 0 (entriesOf b) ≤ 22520
+  pub subgraphs : pairCount Subgraph b ≤ maxPairs
+  pub translations : pairCount Translation b ≤ maxPairs
+  pub row : bodyEnd 0 (entriesOf b) ≤ maxBodiesBytes
   pub subgraph : pairsOk (nameCount b) (subgraphOf b) ≡ true
   pub translation : pairsOk (nameCount b) (translationOf b) ≡ true
   pub order : ascends compareBytes (namesOf b) ≡ true
@@ -57,11 +57,11 @@ unfolding isRecord
 held-record b h =
     rw (
       eq-eqb (length b) recordLength (h .long),
-      le-leb (nameCount b) 512 (h .count),
+      le-leb (nameCount b) maxNames (h .count),
       le-leb (ownNumber b) (nameCount b) (h .own),
-      le-leb (pairCount Subgraph b) 1024 (h .subgraphs),
-      le-leb (pairCount Translation b) 1024 (h .translations),
-      le-leb (bodyEnd 0 (entriesOf b)) 22520 (h .row),
+      le-leb (pairCount Subgraph b) maxPairs (h .subgraphs),
+      le-leb (pairCount Translation b) maxPairs (h .translations),
+      le-leb (bodyEnd 0 (entriesOf b)) maxBodiesBytes (h .row),
       h .subgraph,
       h .translation,
       h .order,

@@ -6,6 +6,7 @@ use Prim.Native.Nat.{ℕ, _+_, _≤_, _<_}
 use native.Mathlib.Omega.{arith}
 use lib.ListN.{length, drop}
 use borrow.Author.Tests.{le-leb, leb-true}
+use Rattle.model.specs.Record.{maxNames, maxPairs, maxBodiesBytes}
 use Rattle.text.specs.Blocks.{allZero}
 use Rattle.model.specs.Bytes.{Bytes}
 use Rattle.text.proofs.Tests.{both-true, same-tests}
@@ -23,10 +24,10 @@ pub clash : (t : Bool) → t ≡ true → t ≡ false → ⊥
 clash t p q = let z : _≡_ {A = ℕ} 0 1 = cc in omega arith
 
 pub record Counted (n o s t : ℕ) : Type 0 where
-  pub names : n ≤ 512
+  pub names : n ≤ maxNames
   pub own : o ≤ n
-  pub subgraphs : s ≤ 1024
-  pub translations : t ≤ 1024
+  pub subgraphs : s ≤ maxPairs
+  pub translations : t ≤ maxPairs
 
 pub counted : (n own s t : ℕ) → countsOk n own s t ≡ true → Counted n own s t
 counted n own s t e =
@@ -48,9 +49,9 @@ module _ (b : Bytes) (n own s t : ℕ) (en : n ≡ nameCount b) (eo : own ≡ ow
       clash (countsOk n own s t)
       (rw (en, eo, es, et, le-leb _ _ (h .count), le-leb _ _ (h .own), le-leb _ _ (h .subgraphs), le-leb _ _ (h .translations))) e
 
-  pub refuse-bodies : 22520 < bodyEnd 0 (entriesAt n (drop countsLength b)) → isRecord b ≡ false
+  pub refuse-bodies : maxBodiesBytes < bodyEnd 0 (entriesAt n (drop countsLength b)) → isRecord b ≡ false
   refuse-bodies h = not-so (isRecord b) λ r.
-      let l : bodyEnd 0 (entriesAt n (drop countsLength b)) ≤ 22520 = rw en (held b r .row) in
+      let l : bodyEnd 0 (entriesAt n (drop countsLength b)) ≤ maxBodiesBytes = rw en (held b r .row) in
       omega arith
 
   pub refuse-tables : tablesOk b n own s t ≡ false → isRecord b ≡ false
@@ -59,7 +60,7 @@ module _ (b : Bytes) (n own s t : ℕ) (en : n ≡ nameCount b) (eo : own ≡ ow
       let h = held b r in
       clash _ (rw (en, eo, es, et, h .subgraph, h .translation, h .order) (h .used)) e
 
-  pub zeros-decide : length b ≡ recordLength → countsOk n own s t ≡ true → bodyEnd 0 (entriesAt n (drop countsLength b)) ≤ 22520 → tablesOk b n own s t ≡ true
+  pub zeros-decide : length b ≡ recordLength → countsOk n own s t ≡ true → bodyEnd 0 (entriesAt n (drop countsLength b)) ≤ maxBodiesBytes → tablesOk b n own s t ≡ true
       → allZero (drop (bodiesAfter n (s + t) + bodyEnd 0 (entriesAt n (drop countsLength b))) b) ≡ isRecord b
   unfolding tablesOk
   zeros-decide l c r d =

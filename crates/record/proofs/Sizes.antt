@@ -6,15 +6,15 @@ use native.Mathlib.Omega.{arith}
 use lib.ListN.{length}
 use lib.Dec.{lit<}
 use borrow.Author.Tests.{ltb-false, le-ltb}
-use Rattle.model.specs.Record.{GraphName, names, anyLong, bodies, judge}
+use Rattle.model.specs.Record.{GraphName, names, anyLong, bodies, judge, maxNames, maxPairs, maxBodiesBytes}
 use Rattle.text.proofs.Tests.{either-false}
 
 pub record Sizes (g : GraphName) : Type 0 where
   pub short : anyLong (names g) ≡ false
-  pub count : length (names g) ≤ 512
-  pub subgraphs : length (g .subgraph) ≤ 1024
-  pub translations : length (g .translation) ≤ 1024
-  pub room : length (bodies (names g)) ≤ 22520
+  pub count : length (names g) ≤ maxNames
+  pub subgraphs : length (g .subgraph) ≤ maxPairs
+  pub translations : length (g .translation) ≤ maxPairs
+  pub room : length (bodies (names g)) ≤ maxBodiesBytes
 
 -- where a choice is 0 and its first number is not, the test failed
 second : (m : ℕ) (t : Bool) (n : ℕ) → 0 < m → cond t m n ≡ 0 → (t ≡ false) × (n ≡ 0)
@@ -31,10 +31,10 @@ judge-sizes g e =
     let (subgraphs, translations) = either-false _ _ pairs in
     record {
       short = short;
-      count = ltb-false 512 (length (names g)) count;
-      subgraphs = ltb-false 1024 (length (g .subgraph)) subgraphs;
-      translations = ltb-false 1024 (length (g .translation)) translations;
-      room = ltb-false 22520 (length (bodies (names g))) room;
+      count = ltb-false maxNames (length (names g)) count;
+      subgraphs = ltb-false maxPairs (length (g .subgraph)) subgraphs;
+      translations = ltb-false maxPairs (length (g .translation)) translations;
+      room = ltb-false maxBodiesBytes (length (bodies (names g))) room;
     }
 
 pub sizes-judge : (g : GraphName) → Sizes g → judge g ≡ 0
@@ -42,8 +42,8 @@ unfolding judge
 sizes-judge g s =
     rw (
       s .short,
-      le-ltb 512 (length (names g)) (s .count),
-      le-ltb 1024 (length (g .subgraph)) (s .subgraphs),
-      le-ltb 1024 (length (g .translation)) (s .translations),
-      le-ltb 22520 (length (bodies (names g))) (s .room),
+      le-ltb maxNames (length (names g)) (s .count),
+      le-ltb maxPairs (length (g .subgraph)) (s .subgraphs),
+      le-ltb maxPairs (length (g .translation)) (s .translations),
+      le-ltb maxBodiesBytes (length (bodies (names g))) (s .room),
     )

@@ -11,7 +11,7 @@ use lib.Seq.{drop-drop}
 use borrow.Author.Tests.{eq-eqb, ne-eqb, le-leb, lt-leb}
 use Rattle.model.specs.Bytes.{Bytes, compareBytes}
 use Rattle.model.specs.Numbers.{number}
-use Rattle.model.specs.Record.{ascends}
+use Rattle.model.specs.Record.{ascends, maxNameBytes}
 use Rattle.record.specs.Test.{rowsAt, entriesAt, pairsAt, Under, bodyEnd, cut, isLess, pairLess, pairOk, pairsOk, every, marks}
 use Rattle.record.proofs.Words.{rowsAt-step}
 use Rattle.model.specs.Layout.{entryLength, pairLength, recordLength}
@@ -38,14 +38,14 @@ module _ (at left p : ℕ) (b : Bytes) where
     unfolding bodyEnd
     bodyEnd-gap e = rw (rows-more entryLength left p b h, ne-eqb (number b p) at e)
 
-    pub bodyEnd-long : number b p ≡ at → 256 < number b (p + 2) → bodyEnd at (entriesAt left (drop p b)) ≡ recordLength
+    pub bodyEnd-long : number b p ≡ at → maxNameBytes < number b (p + 2) → bodyEnd at (entriesAt left (drop p b)) ≡ recordLength
     unfolding bodyEnd
-    bodyEnd-long e l = rw (rows-more entryLength left p b h, eq-eqb (number b p) at e, lt-leb (number b (p + 2)) 256 l)
+    bodyEnd-long e l = rw (rows-more entryLength left p b h, eq-eqb (number b p) at e, lt-leb (number b (p + 2)) maxNameBytes l)
 
-    pub bodyEnd-more : number b p ≡ at → number b (p + 2) ≤ 256
+    pub bodyEnd-more : number b p ≡ at → number b (p + 2) ≤ maxNameBytes
         → bodyEnd at (entriesAt left (drop p b)) ≡ bodyEnd (at + number b (p + 2)) (entriesAt (left - 1) (drop (p + entryLength) b))
     unfolding bodyEnd
-    bodyEnd-more e l = rw (rows-more entryLength left p b h, eq-eqb (number b p) at e, le-leb (number b (p + 2)) 256 l)
+    bodyEnd-more e l = rw (rows-more entryLength left p b h, eq-eqb (number b p) at e, le-leb (number b (p + 2)) maxNameBytes l)
 
 -- ------------------------------------------------------------------ the pairs
 

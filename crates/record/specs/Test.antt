@@ -10,7 +10,7 @@ use Rattle.model.specs.declared.Kind.the-variants.{Subgraph, Translation}
 use Rattle.model.specs.declared.Order.{Order}
 use Rattle.model.specs.Bytes.{Bytes, byOrder, compareBytes}
 use Rattle.model.specs.Numbers.{number}
-use Rattle.model.specs.Record.{ascends}
+use Rattle.model.specs.Record.{ascends, maxNameBytes, maxNames, maxPairs, maxBodiesBytes}
 use Rattle.model.specs.Layout.{recordLength, countsLength, entryLength, pairLength, entryAt, bodiesAfter, nameCount, ownNumber, pairCount, tableAt, bodiesAt}
 
 -- the first two numbers of each of the n rows of `width` bytes at the front of b
@@ -34,7 +34,7 @@ Under n (p ∷ ps) = (p .0 < n) × (p .1 < n) × Under n ps
 -- where the bodies end, counted from the first, if the entries leave no gap and no name is long; else a record's length
 unfoldable pub bodyEnd : ℕ → List (ℕ × ℕ) → ℕ
 bodyEnd at [] = at
-bodyEnd at (e ∷ es) = cond (eqb (e .0) at && leb (e .1) 256) (bodyEnd (at + e .1) es) recordLength
+bodyEnd at (e ∷ es) = cond (eqb (e .0) at && leb (e .1) maxNameBytes) (bodyEnd (at + e .1) es) recordLength
 
 -- the names, cut off the front of the bodies by their lengths
 unfoldable pub cut : List (ℕ × ℕ) → Bytes → List Bytes
@@ -103,7 +103,7 @@ abbrev pub namesOf : Bytes → List Bytes
 namesOf b = cut (entriesOf b) (drop (bodiesAt b) b)
 
 abbrev pub countsOk : ℕ → ℕ → ℕ → ℕ → Bool
-countsOk n own s t = leb n 512 && (leb own n && (leb s 1024 && leb t 1024))
+countsOk n own s t = leb n maxNames && (leb own n && (leb s maxPairs && leb t maxPairs))
 
 -- the pairs of both kinds are right, the names ascend, and all are used
 unfoldable pub tablesOk : Bytes → ℕ → ℕ → ℕ → ℕ → Bool
@@ -115,11 +115,11 @@ tablesOk b n own s t =
 unfoldable pub isRecord : Bytes → Bool
 isRecord b =
     eqb (length b) recordLength
-    && (leb (nameCount b) 512
+    && (leb (nameCount b) maxNames
     && (leb (ownNumber b) (nameCount b)
-    && (leb (pairCount Subgraph b) 1024
-    && (leb (pairCount Translation b) 1024
-    && (leb (bodyEnd 0 (entriesOf b)) 22520
+    && (leb (pairCount Subgraph b) maxPairs
+    && (leb (pairCount Translation b) maxPairs
+    && (leb (bodyEnd 0 (entriesOf b)) maxBodiesBytes
     && (pairsOk (nameCount b) (subgraphOf b)
     && (pairsOk (nameCount b) (translationOf b)
     && (ascends compareBytes (namesOf b)

@@ -1,4 +1,5 @@
-// The sizes and offsets of a record, as `model/specs/Layout.antt` has them: no other file of code knows these numbers.
+// The sizes and offsets of a record, as `model/specs/Record.antt` and `Layout.antt` have them: no other file of the libraries
+// knows these numbers.
 ghost use mathlib.Core.Path.{_≡_};
 ghost use Prim.Native.Nat.{_+_, _*_, _<_};
 ghost use lib.ListN.{length};
@@ -15,6 +16,18 @@ pub const ENTRY_LENGTH: usize = 4;
 
 // The places of a pair's two names.
 pub const PAIR_LENGTH: usize = 4;
+
+// The longest name, in bytes.
+pub const MAX_NAME_BYTES: usize = 256;
+
+// The most distinct names.
+pub const MAX_NAMES: usize = 512;
+
+// The most pairs of each kind.
+pub const MAX_PAIRS: usize = 1024;
+
+// The most bytes of all distinct names together.
+pub const MAX_BODIES_BYTES: usize = 22520;
 
 // A buffer that holds the empty record: all zeros.
 pub fn empty_record() -> [u8; RECORD_LENGTH]

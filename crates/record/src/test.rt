@@ -1,6 +1,8 @@
 // The test of a buffer: whether it is a record, part by part.
 use crate::offsets::COUNTS_LENGTH;
 use crate::offsets::ENTRY_LENGTH;
+use crate::offsets::MAX_NAME_BYTES;
+use crate::offsets::MAX_NAMES;
 use crate::offsets::PAIR_LENGTH;
 use crate::offsets::RECORD_LENGTH;
 use model::Order;
@@ -10,13 +12,13 @@ ghost use mathlib.Core.Bool.{true};
 ghost use Prim.Native.Nat.{_+_, _*_, _≤_, _<_};
 ghost use lib.ListN.{length, drop, replicate};
 ghost use Rattle.model.specs.Bytes.{compareBytes};
-ghost use Rattle.model.specs.Record.{ascends};
+ghost use Rattle.model.specs.Record.{ascends, maxNames};
 ghost use Rattle.model.specs.Layout.{recordLength, countsLength, pairLength, entryAt};
 ghost use Rattle.record.specs.Test.{entriesAt, pairsAt, Under, bodyEnd, cut, isLess, pairLess, pairOk, pairsOk, isUsed, every, marks, markOwn, isOne};
 
 // Where the bodies of n names end, counted from the first, if the entries leave no gap and no name is long; else a record's length.
 pub(crate) fn body_end(b: &[u8], n: usize) -> usize
-    requires { ⌜ (n ≤ 512) × (entryAt n ≤ length (now b)) ⌝ }
+    requires { ⌜ (n ≤ maxNames) × (entryAt n ≤ length (now b)) ⌝ }
     ensures { λ r. ⌜ r ≡ bodyEnd 0 (entriesAt n (drop countsLength (now (b .entry)))) ⌝ }
 {
     let mut at = 0;
@@ -28,7 +30,7 @@ pub(crate) fn body_end(b: &[u8], n: usize) -> usize
         if start != at {
             return RECORD_LENGTH;
         }
-        if 256 < size {
+        if MAX_NAME_BYTES < size {
             return RECORD_LENGTH;
         }
         at += size;
@@ -92,6 +94,7 @@ pub(crate) fn pairs_ok(b: &[u8], at: usize, count: usize, n: usize) -> bool
     true
 }
 
+// Whether one byte string comes before another.
 fn is_less(a: &[u8], b: &[u8]) -> bool
     ensures { λ r. ⌜ r ≡ isLess (compareBytes (now (a .entry)) (now (b .entry))) ⌝ }
 {
@@ -104,7 +107,7 @@ fn is_less(a: &[u8], b: &[u8]) -> bool
 
 // Whether the n names whose bodies start at `bodies` ascend.
 pub(crate) fn names_ascend(b: &[u8], n: usize, bodies: usize) -> bool
-    requires { ⌜ (n ≤ 512) × (entryAt n ≤ length (now b)) × (bodies ≤ recordLength) ⌝ }
+    requires { ⌜ (n ≤ maxNames) × (entryAt n ≤ length (now b)) × (bodies ≤ recordLength) ⌝ }
     ensures { λ r. ⌜ r ≡ ascends compareBytes (cut (entriesAt n (drop countsLength (now (b .entry)))) (drop bodies (now (b .entry)))) ⌝ }
 {
     let mut p = COUNTS_LENGTH;
@@ -155,10 +158,10 @@ fn all_marked(used: &[u8], n: usize) -> bool
 }
 
 // No place marked, of the most there can be.
-fn no_marks() -> [u8; 512]
-    ensures { λ r. ⌜ r ≡ replicate 512 0 ⌝ }
+fn no_marks() -> [u8; MAX_NAMES]
+    ensures { λ r. ⌜ r ≡ replicate maxNames 0 ⌝ }
 {
-    [0; 512]
+    [0; MAX_NAMES]
 }
 
 // Marks the own place, if there is one.
@@ -182,7 +185,7 @@ pub(crate) fn all_used(
     translation: usize,
     t: usize,
 ) -> bool
-    requires { ⌜ (n ≤ 512) × (own ≤ n) × (subgraph + pairLength * s ≤ length (now b)) × (translation + pairLength * t ≤ length (now b)) ⌝ }
+    requires { ⌜ (n ≤ maxNames) × (own ≤ n) × (subgraph + pairLength * s ≤ length (now b)) × (translation + pairLength * t ≤ length (now b)) ⌝ }
     requires { ⌜ Under n (pairsAt s (drop subgraph (now b))) × Under n (pairsAt t (drop translation (now b))) ⌝ }
     ensures { λ r. ⌜ r ≡ every (isUsed own (pairsAt s (drop subgraph (now (b .entry)))) (pairsAt t (drop translation (now (b .entry))))) n ⌝ }
 {

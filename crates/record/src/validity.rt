@@ -1,6 +1,9 @@
 // Whether a buffer is a record, from the tests of its parts; and the number of what is wrong with it.
 use crate::offsets::COUNTS_LENGTH;
 use crate::offsets::ENTRY_LENGTH;
+use crate::offsets::MAX_BODIES_BYTES;
+use crate::offsets::MAX_NAMES;
+use crate::offsets::MAX_PAIRS;
 use crate::offsets::PAIR_LENGTH;
 use crate::offsets::RECORD_LENGTH;
 use crate::reader::head_at;
@@ -11,13 +14,14 @@ use crate::test::pairs_ok;
 ghost use mathlib.Core.Path.{_≡_};
 ghost use Prim.Native.Nat.{_+_, _≤_};
 ghost use lib.ListN.{length};
+ghost use Rattle.model.specs.Record.{maxNames, maxPairs};
 ghost use Rattle.model.specs.Layout.{bodiesAfter, decode};
 ghost use Rattle.model.specs.Opening.{isSome, faultOf, faultOfBoth};
 ghost use Rattle.record.specs.Test.{countsOk, tablesOk};
 
 // Whether the pairs of both kinds are right, the names ascend and all are used, in a buffer whose counts are within the sizes.
 fn tables_ok(b: &[u8], n: usize, own: usize, s: usize, t: usize) -> bool
-    requires { ⌜ (n ≤ 512) × (own ≤ n) × (s ≤ 1024) × (t ≤ 1024) × (bodiesAfter n (s + t) ≤ length (now b)) ⌝ }
+    requires { ⌜ (n ≤ maxNames) × (own ≤ n) × (s ≤ maxPairs) × (t ≤ maxPairs) × (bodiesAfter n (s + t) ≤ length (now b)) ⌝ }
     ensures { λ r. ⌜ r ≡ tablesOk (now (b .entry)) n own s t ⌝ }
 {
     let subgraph = COUNTS_LENGTH + ENTRY_LENGTH * n;
@@ -39,16 +43,16 @@ fn tables_ok(b: &[u8], n: usize, own: usize, s: usize, t: usize) -> bool
 fn counts_ok(n: usize, own: usize, s: usize, t: usize) -> bool
     ensures { λ r. ⌜ r ≡ countsOk n own s t ⌝ }
 {
-    if 512 < n {
+    if MAX_NAMES < n {
         return false;
     }
     if n < own {
         return false;
     }
-    if 1024 < s {
+    if MAX_PAIRS < s {
         return false;
     }
-    t <= 1024
+    t <= MAX_PAIRS
 }
 
 // Whether a buffer is a record.
@@ -67,7 +71,7 @@ pub fn is_record(b: &[u8]) -> bool
         return false;
     }
     let end = body_end(b, n);
-    if 22520 < end {
+    if MAX_BODIES_BYTES < end {
         return false;
     }
     if !tables_ok(b, n, own, s, t) {

@@ -3,14 +3,14 @@ use mathlib.Core.Path.{_≡_, refl, sym, _∙_}
 use mathlib.Core.Bool.{Bool, true, false}
 use mathlib.Core.List.{List, _++_}
 use mathlib.Core.Option.{some}
-use Prim.Native.Nat.{ℕ, _+_, _-_, _≤_, _<_}
+use Prim.Native.Nat.{ℕ, _+_, _-_, _*_, _≤_, _<_}
 use native.Mathlib.Omega.{arith}
 use lib.ListN.{length, take, drop, getD, length-append, length-drop}
 use lib.Seq.{length-take-le, getD-take}
 use Rattle.model.specs.declared.Kind.{Kind}
 use Rattle.model.specs.declared.Kind.the-variants.{Subgraph, Translation}
 use Rattle.model.specs.Bytes.{Bytes}
-use Rattle.model.specs.Record.{GraphName}
+use Rattle.model.specs.Record.{GraphName, maxNames, maxPairs}
 use Rattle.model.specs.Layout.{nameCount, ownNumber, nameAt, decode, pairCount}
 use Rattle.record.proofs.Held.{Held}
 use Rattle.record.proofs.Laws.{decode-held}
@@ -25,7 +25,7 @@ use Rattle.search.specs.Room.{PairsWithin, Within}
 use Rattle.search.proofs.Sides.{record-rise, union-order, side-first, side-second, record-sorted}
 use Rattle.search.proofs.Holding.{holds-full, holds-subgraph}
 
-few-pairs : (b : Bytes) (g : GraphName) → decode b ≡ some g → (k : Kind) → pairCount k b ≤ 1024
+few-pairs : (b : Bytes) (g : GraphName) → decode b ≡ some g → (k : Kind) → pairCount k b ≤ maxPairs
 few-pairs b g e Subgraph = decode-held b g e .subgraphs
 few-pairs b g e Translation = decode-held b g e .translations
 
@@ -172,8 +172,8 @@ module _ (b c : Bytes) (owned : Owned b c) (m n : ℕ) (em : m ≡ nameCount b) 
 
 -- how many names two records have, and where their own names are among them
 pub record Counted (b c : Bytes) : Type 0 where
-  pub first-few : nameCount b ≤ 512
-  pub second-few : nameCount c ≤ 512
+  pub first-few : nameCount b ≤ maxNames
+  pub second-few : nameCount c ≤ maxNames
   pub from : ownNumber b - 1 < nameCount b
   pub to : ownNumber c - 1 < nameCount c
 
@@ -186,7 +186,7 @@ counted b c o = record {
 }
 
 -- the large tables have room for any two records
-pub within-large : (b c : Bytes) → Owned b c → Within b c 1024 2048
+pub within-large : (b c : Bytes) → Owned b c → Within b c (2 * maxNames) (2 * maxPairs)
 within-large b c o =
     let d = decode-held b (o .named .g) (o .named .first) in
     let e = decode-held c (o .named .h) (o .named .second) in

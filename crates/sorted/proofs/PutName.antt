@@ -13,7 +13,7 @@ use borrow.Author.Tests.{ltb-true, lt-ltb, le-ltb}
 use Rattle.model.specs.declared.Order.the-variants.{Equal, Greater}
 use Rattle.model.specs.Statements.{Ascending}
 use Rattle.model.specs.Bytes.{Bytes, compareBytes, sameBytes, put}
-use Rattle.model.specs.Record.{insert, anyLong}
+use Rattle.model.specs.Record.{insert, anyLong, maxNameBytes}
 use Rattle.record.specs.Coded.{nameIn, pairIn}
 use Rattle.record.proofs.Words.{under-weaken}
 use Rattle.text.proofs.Order.{bytes-order, sameBytes-true}
@@ -74,11 +74,11 @@ same-put t name p k e h =
       translation = refl;
     }
 
-any-spliced : (name : Bytes) (p : ℕ) (ns : List Bytes) → p ≤ length ns → length name ≤ 256 → anyLong ns ≡ false → anyLong (spliced p name ns) ≡ false
-any-spliced name zero ns h s a = rw (spliced-zero name ns, le-ltb 256 (length name) s) a
+any-spliced : (name : Bytes) (p : ℕ) (ns : List Bytes) → p ≤ length ns → length name ≤ maxNameBytes → anyLong ns ≡ false → anyLong (spliced p name ns) ≡ false
+any-spliced name zero ns h s a = rw (spliced-zero name ns, le-ltb maxNameBytes (length name) s) a
 any-spliced name (suc p) [] h s a = absurd (omega arith)
 any-spliced name (suc p) (n ∷ ns) h s a =
-    let (b, c) = either-false (ltb 256 (length n)) (anyLong ns) a in
+    let (b, c) = either-false (ltb maxNameBytes (length n)) (anyLong ns) a in
     rw (spliced-suc p name n ns, b) (any-spliced name p ns (omega arith) s c)
 
 -- the pairs of one kind, after a name came in at place p

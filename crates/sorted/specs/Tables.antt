@@ -7,7 +7,7 @@ use Prim.Native.Nat.{ℕ, _+_, _/_, _%_, _≤_, _<_}
 use lib.ListN.{length, take, drop}
 use lib.Dec.{ltb}
 use Rattle.model.specs.Bytes.{Bytes, compareNumbers, compareBytes, sameBytes}
-use Rattle.model.specs.Record.{GraphName, insert, withPair, anyLong, bodies}
+use Rattle.model.specs.Record.{GraphName, insert, withPair, anyLong, bodies, maxNameBytes}
 use Rattle.model.specs.declared.Kind.{Kind}
 use Rattle.model.specs.Statements.{Ascending}
 use Rattle.record.specs.Test.{Under}
@@ -89,14 +89,14 @@ pub record Kept (t : Tables) : Type 0 where
 
 -- there is room for a name, which is short
 pub record NameRoom (t : Tables) (name : Bytes) : Type 0 where
-  pub short : length name ≤ 256
+  pub short : length name ≤ maxNameBytes
   pub count : t .sizes .names < length (t .refs)
   pub room : t .sizes .bytes + length name ≤ length (t .pool)
 
 -- there is room for a pair of either kind with its two names, which are short
 pub record PairRoom (t : Tables) (from to : Bytes) : Type 0 where
-  pub from-short : length from ≤ 256
-  pub to-short : length to ≤ 256
+  pub from-short : length from ≤ maxNameBytes
+  pub to-short : length to ≤ maxNameBytes
   pub count : t .sizes .names + 1 < length (t .refs)
   pub room : t .sizes .bytes + length from + length to ≤ length (t .pool)
   pub subgraph : t .sizes .subgraph < length (t .subs)

@@ -3,6 +3,7 @@ use mathlib.Core.Path.{_≡_, sym, ap, _∙_}
 use mathlib.Core.Bool.{true}
 use Prim.Native.Nat.{ℕ, _+_, _*_, _≤_, _<_}
 use lib.ListN.{length, getD}
+use Rattle.model.specs.Record.{maxNameBytes, maxNames}
 use Rattle.model.specs.Bytes.{Bytes}
 use Rattle.model.specs.Layout.{fromPlace, nameCount, pairLength, toPlace, nameAt, shown, decode, pairCount, tableAt}
 use Rattle.model.specs.Questions.{pairsOf}
@@ -14,11 +15,11 @@ use Rattle.tables.proofs.Merge.{none-pair}
 
 -- the pair at place i
 module _ (b : Bytes) (v : isSome (decode b) ≡ true) (k : Kind) (i : ℕ) (h : i < pairCount k b) (at : ℕ) (table : at ≡ tableAt k b) where
-  pub places-inside : (fromPlace b (at + pairLength * i) < nameCount b) × (toPlace b (at + pairLength * i) < nameCount b) × (nameCount b ≤ 512)
+  pub places-inside : (fromPlace b (at + pairLength * i) < nameCount b) × (toPlace b (at + pairLength * i) < nameCount b) × (nameCount b ≤ maxNames)
   places-inside = let w = pair-within b (shown b) (decodes b v) k i h in rw table (w .0, w .1, is-held b v .count)
 
   pub pair-read : (x y : ℕ) (from to : Bytes) → x ≡ fromPlace b (at + pairLength * i) → y ≡ toPlace b (at + pairLength * i) → from ≡ nameAt b x → to ≡ nameAt b y
-      → (getD (pairsOf k (shown b)) i none-pair ≡ record { from = from; to = to }) × (length from ≤ 256) × (length to ≤ 256)
+      → (getD (pairsOf k (shown b)) i none-pair ≡ record { from = from; to = to }) × (length from ≤ maxNameBytes) × (length to ≤ maxNameBytes)
   pair-read x y from to ex ey ef et =
       let w = places-inside in
       let f = ef ∙ ap (nameAt b) ex in

@@ -16,7 +16,7 @@ use Rattle.model.specs.declared.Order.the-variants.{Less, Equal, Greater}
 use Rattle.model.specs.Bytes.{Bytes, byOrder, compareBytes}
 use Rattle.model.specs.declared.Kind.{Kind}
 use Rattle.model.specs.declared.Kind.the-variants.{Subgraph, Translation}
-use Rattle.model.specs.Record.{Pair, GraphName, insert, withPair, names, anyLong, bodies, judge}
+use Rattle.model.specs.Record.{Pair, GraphName, insert, withPair, names, anyLong, bodies, judge, maxNameBytes, maxNames, maxBodiesBytes}
 use Rattle.model.specs.Layout.{encode}
 use Rattle.model.specs.Outcome.{keptOr}
 use Rattle.record.specs.Coded.{nameIn, pairIn, meaning}
@@ -68,16 +68,16 @@ either-same : (s u : Bool) → s || (s || u) ≡ s || u
 either-same true u = refl
 either-same false u = refl
 
-pub any-insert : (n : Bytes) (ns : List Bytes) → anyLong (insert compareBytes n ns) ≡ ltb 256 (length n) || anyLong ns
+pub any-insert : (n : Bytes) (ns : List Bytes) → anyLong (insert compareBytes n ns) ≡ ltb maxNameBytes (length n) || anyLong ns
 unfolding insert
 any-insert n [] = refl
 any-insert n (m ∷ ms) = go (compareBytes n m) refl (any-insert n ms)
   where
-    go : (o : Order) → compareBytes n m ≡ o → anyLong (insert compareBytes n ms) ≡ ltb 256 (length n) || anyLong ms
-        → anyLong (byOrder o (n ∷ m ∷ ms) (m ∷ ms) (m ∷ insert compareBytes n ms)) ≡ ltb 256 (length n) || (ltb 256 (length m) || anyLong ms)
+    go : (o : Order) → compareBytes n m ≡ o → anyLong (insert compareBytes n ms) ≡ ltb maxNameBytes (length n) || anyLong ms
+        → anyLong (byOrder o (n ∷ m ∷ ms) (m ∷ ms) (m ∷ insert compareBytes n ms)) ≡ ltb maxNameBytes (length n) || (ltb maxNameBytes (length m) || anyLong ms)
     go Less e h = refl
-    go Equal e h = rw (bytes-order .same n m e) (sym (either-same (ltb 256 (length m)) (anyLong ms)))
-    go Greater e h = rw h (either-swap (ltb 256 (length m)) (ltb 256 (length n)) (anyLong ms))
+    go Equal e h = rw (bytes-order .same n m e) (sym (either-same (ltb maxNameBytes (length m)) (anyLong ms)))
+    go Greater e h = rw h (either-swap (ltb maxNameBytes (length m)) (ltb maxNameBytes (length n)) (anyLong ms))
 
 -- ------------------------------------------------------------------ the counts
 
@@ -113,8 +113,8 @@ module _ (refs : List ℕ) (pool : Bytes) (sizes : Sizes) (k : NamesKept refs po
   fault-without e = rw (e, k .short, count-kept, ← k .total)
 
   module _ (e : named ≡ true) where
-    pub fault-long : 256 < length own → number ≡ 11
-    fault-long h = rw (e, any-insert own ns, lt-ltb 256 (length own) h)
+    pub fault-long : maxNameBytes < length own → number ≡ 11
+    fault-long h = rw (e, any-insert own ns, lt-ltb maxNameBytes (length own) h)
 
     module _ (p : ℕ) (place : p ≡ lower compareBytes own ns) where
       pub fault-there : holdsAt ns p own ≡ true → number ≡ counted (sizes .names) (sizes .bytes)
@@ -122,11 +122,11 @@ module _ (refs : List ℕ) (pool : Bytes) (sizes : Sizes) (k : NamesKept refs po
           let (l, d) = holds-true ns p own h in
           rw (e, insert-there bytes-order [] own ns p (k .order) l d, k .short, count-kept, ← k .total)
 
-      pub fault-new : length own ≤ 256 → holdsAt ns p own ≡ false → number ≡ counted (sizes .names + 1) (sizes .bytes + length own)
+      pub fault-new : length own ≤ maxNameBytes → holdsAt ns p own ≡ false → number ≡ counted (sizes .names + 1) (sizes .bytes + length own)
       fault-new s h =
           let l = lower-le compareBytes own ns in
           let new = insert-new bytes-order [] own ns (k .order) (rw place at (holds-false ns p own h)) in
-          let short : anyLong (insert compareBytes own ns) ≡ false = any-insert own ns ∙ rw (le-ltb 256 (length own) s) (k .short) in
+          let short : anyLong (insert compareBytes own ns) ≡ false = any-insert own ns ∙ rw (le-ltb maxNameBytes (length own) s) (k .short) in
           rw (
             e,
             short,
@@ -138,7 +138,7 @@ module _ (refs : List ℕ) (pool : Bytes) (sizes : Sizes) (k : NamesKept refs po
             add-one (sizes .names),
           )
 
-    pub fault-room : length own ≤ 256 → sizes .names < 512 → sizes .bytes + length own ≤ 22520 → number ≡ counted (sizes .names) (sizes .bytes)
+    pub fault-room : length own ≤ maxNameBytes → sizes .names < maxNames → sizes .bytes + length own ≤ maxBodiesBytes → number ≡ counted (sizes .names) (sizes .bytes)
     unfolding countFault
     fault-room s n b = go (holdsAt ns (lower compareBytes own ns) own) refl
       where
@@ -147,10 +147,10 @@ module _ (refs : List ℕ) (pool : Bytes) (sizes : Sizes) (k : NamesKept refs po
         go false h =
             fault-new (lower compareBytes own ns) refl s h
             ∙ rw (
-              le-ltb 512 (sizes .names + 1) (omega arith),
-              le-ltb 512 (sizes .names) (omega arith),
-              le-ltb 22520 (sizes .bytes + length own) b,
-              le-ltb 22520 (sizes .bytes) (omega arith),
+              le-ltb maxNames (sizes .names + 1) (omega arith),
+              le-ltb maxNames (sizes .names) (omega arith),
+              le-ltb maxBodiesBytes (sizes .bytes + length own) b,
+              le-ltb maxBodiesBytes (sizes .bytes) (omega arith),
             )
 
 -- ------------------------------------------------------------------ what is stored

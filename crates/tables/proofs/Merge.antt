@@ -11,7 +11,7 @@ use lib.Seq.{drop-cons}
 use Rattle.model.specs.declared.Kind.{Kind}
 use Rattle.model.specs.declared.Kind.the-variants.{Subgraph, Translation}
 use Rattle.model.specs.Bytes.{Bytes, compareBytes}
-use Rattle.model.specs.Record.{Pair, GraphName, comparePairs, insert, withPair, names, bodies}
+use Rattle.model.specs.Record.{Pair, GraphName, comparePairs, insert, withPair, names, bodies, maxNameBytes}
 use Rattle.model.specs.Questions.{pairsOf}
 use Rattle.model.specs.Statements.{Ascending}
 use Rattle.record.proofs.Names.{pair-listed}
@@ -145,7 +145,7 @@ module _ (kind : Kind) (t : Tables) (h : GraphName) (start : Kept t) (i : ℕ) (
 
   -- room for the next
   pub putting-room : (from to : Bytes) → MergeRoom t h (subgraphMore kind (length pairs)) (translationMore kind (length pairs)) → i < length pairs
-      → length from ≤ 256 → length to ≤ 256 → PairRoom u from to
+      → length from ≤ maxNameBytes → length to ≤ maxNameBytes → PairRoom u from to
   putting-room from to r l f g = record {
     from-short = f;
     to-short = g;

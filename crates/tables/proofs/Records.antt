@@ -8,7 +8,7 @@ use lib.Dec.{lit≤}
 use lib.ListN.{length, drop, length-drop}
 use lib.Seq.{length-take-le}
 use Rattle.model.specs.Bytes.{Bytes}
-use Rattle.model.specs.Record.{GraphName, names}
+use Rattle.model.specs.Record.{GraphName, names, maxNameBytes}
 use Rattle.model.specs.Layout.{nameCount, ownNumber, pairLength, bodyStart, bodyLength, bodiesAt, nameAt, shown, decode, pairCount, tableAt}
 use Rattle.model.specs.Questions.{pairsOf}
 use Rattle.model.specs.Opening.{isSome}
@@ -43,7 +43,7 @@ module _ (b : Bytes) (v : isSome (decode b) ≡ true) where
   shown-count = record-count b (shown b) decodes
 
   -- a name's bytes are few
-  pub name-short : (i : ℕ) → i < nameCount b → length (nameAt b i) ≤ 256
+  pub name-short : (i : ℕ) → i < nameCount b → length (nameAt b i) ≤ maxNameBytes
   unfolding nameAt
   name-short i h =
       let w = name-within b (shown b) decodes i h in
@@ -61,10 +61,10 @@ module _ (b : Bytes) (v : isSome (decode b) ≡ true) where
   pair-inside Translation i h = omega (arith, is-held .long, is-held .count, is-held .subgraphs, is-held .translations)
 
 -- the own name is short, where there is one
-pub own-short : (b : Bytes) → isSome (decode b) ≡ true → length (nameOr (shown b .name)) ≤ 256
+pub own-short : (b : Bytes) → isSome (decode b) ≡ true → length (nameOr (shown b .name)) ≤ maxNameBytes
 own-short b v = go (ownNumber b) refl
   where
-    go : (own : ℕ) → ownNumber b ≡ own → length (nameOr (shown b .name)) ≤ 256
+    go : (own : ℕ) → ownNumber b ≡ own → length (nameOr (shown b .name)) ≤ maxNameBytes
     go zero e = rw (own-none b (ownNumber b) refl e) (lit≤ tt)
     go (suc i) e =
         let h = is-held b v in

@@ -7,7 +7,7 @@ use Prim.Native.Nat.{ℕ, _≤_}
 use lib.ListN.{length}
 use lib.Dec.{ltb}
 use Rattle.model.specs.Bytes.{Bytes, compareBytes}
-use Rattle.model.specs.Record.{GraphName, insert, names, anyLong, bodies}
+use Rattle.model.specs.Record.{GraphName, insert, names, anyLong, bodies, maxNames, maxPairs, maxBodiesBytes}
 use Rattle.model.specs.Outcome.{Outcome}
 use Rattle.model.specs.Statements.{Ascending}
 use Rattle.record.specs.Coded.{meaning}
@@ -31,7 +31,7 @@ namesAnd (some n) ns = insert compareBytes n ns
 -- the numbers 12 to 14 of docs/FORMAT.md, in their order, or 0
 unfoldable pub countFault : ℕ → ℕ → ℕ → ℕ → ℕ
 countFault count bytes subgraph translation =
-    cond (ltb 512 count) 12 (cond (ltb 1024 subgraph || ltb 1024 translation) 13 (cond (ltb 22520 bytes) 14 0))
+    cond (ltb maxNames count) 12 (cond (ltb maxPairs subgraph || ltb maxPairs translation) 13 (cond (ltb maxBodiesBytes bytes) 14 0))
 
 -- 11 to 14, of these names and so many pairs
 abbrev pub sizeFault : List Bytes → ℕ → ℕ → ℕ
@@ -64,8 +64,8 @@ pub record Complete (t : Tables) (own : ℕ) : Type 0 where
 pub record Storable (t : Tables) (own : ℕ) : Type 0 where
   pub kept : Kept t
   pub own-within : own ≤ t .sizes .names
-  pub count : t .sizes .names ≤ 512
-  pub bytes : t .sizes .bytes ≤ 22520
-  pub subgraph : t .sizes .subgraph ≤ 1024
-  pub translation : t .sizes .translation ≤ 1024
+  pub count : t .sizes .names ≤ maxNames
+  pub bytes : t .sizes .bytes ≤ maxBodiesBytes
+  pub subgraph : t .sizes .subgraph ≤ maxPairs
+  pub translation : t .sizes .translation ≤ maxPairs
   pub used : names (meaning (readOut t own)) ≡ tableNames t

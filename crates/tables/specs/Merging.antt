@@ -2,12 +2,12 @@
 use mathlib.Core.Path.{_≡_}
 use mathlib.Core.List.{List, [], _∷_, List·Memᴰ}
 use mathlib.Core.Option.{Option}
-use Prim.Native.Nat.{ℕ, _+_, _≤_, _<_}
+use Prim.Native.Nat.{ℕ, _+_, _*_, _≤_, _<_}
 use lib.ListN.{length}
 use Rattle.model.specs.declared.Kind.{Kind}
 use Rattle.model.specs.declared.Kind.the-variants.{Subgraph, Translation}
 use Rattle.model.specs.Bytes.{Bytes, compareBytes}
-use Rattle.model.specs.Record.{Pair, GraphName, insertAll, withPair, names, bodies}
+use Rattle.model.specs.Record.{Pair, GraphName, insertAll, withPair, names, bodies, maxNameBytes}
 use Rattle.model.specs.Questions.{pairsOf}
 use Rattle.sorted.specs.Tables.{Tables, tableNames, graphIn, Kept}
 use Rattle.tables.specs.Judging.{Good}
@@ -33,7 +33,7 @@ allOf t h = insertAll compareBytes (names h) (tableNames t)
 -- there is room for all names of h and for these many pairs, and for one pair more
 pub record MergeRoom (t : Tables) (h : GraphName) (s m : ℕ) : Type 0 where
   pub count : length (allOf t h) + 1 < length (t .refs)
-  pub room : length (bodies (allOf t h)) + 512 ≤ length (t .pool)
+  pub room : length (bodies (allOf t h)) + 2 * maxNameBytes ≤ length (t .pool)
   pub subgraph : t .sizes .subgraph + s < length (t .subs)
   pub translation : t .sizes .translation + m < length (t .trans)
 

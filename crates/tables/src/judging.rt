@@ -1,5 +1,9 @@
 // The sizes, the numbers 11 to 14 of docs/FORMAT.md, and storing what is within them.
 use crate::storing::store;
+use record::MAX_BODIES_BYTES;
+use record::MAX_NAME_BYTES;
+use record::MAX_NAMES;
+use record::MAX_PAIRS;
 use sorted::Sizes;
 use sorted::is_at;
 use sorted::name_place;
@@ -18,16 +22,16 @@ ghost use Rattle.tables.specs.Judging.{ownIf, namesAnd, countFault, size
 fn count_fault(names: usize, bytes: usize, subgraph: usize, translation: usize) -> u32
     ensures { λ r. ⌜ r ≡ countFault names bytes subgraph translation ⌝ }
 {
-    if 512 < names {
+    if MAX_NAMES < names {
         return 12;
     }
-    if 1024 < subgraph {
+    if MAX_PAIRS < subgraph {
         return 13;
     }
-    if 1024 < translation {
+    if MAX_PAIRS < translation {
         return 13;
     }
-    if 22520 < bytes { 14 } else { 0 }
+    if MAX_BODIES_BYTES < bytes { 14 } else { 0 }
 }
 
 // The number for the sizes of the graph name that the tables show, with an own name beside them if `has_name`. Where there is room for
@@ -40,11 +44,11 @@ pub fn size_fault(refs: &[u32], pool: &[u8], sizes: Sizes, has_name: bool, own: 
     if !has_name {
         return count_fault(n, sizes.bytes, sizes.subgraph, sizes.translation);
     }
-    if 256 < own.len() {
+    if MAX_NAME_BYTES < own.len() {
         return 11;
     }
     let bytes = sizes.bytes + own.len();
-    if n < 512 && bytes <= 22520 {
+    if n < MAX_NAMES && bytes <= MAX_BODIES_BYTES {
         return count_fault(n, sizes.bytes, sizes.subgraph, sizes.translation);
     }
     let p = name_place(refs, pool, n, own);

@@ -6,6 +6,7 @@ use Prim.Native.Nat.{ℕ, _-_, _≤_, _<_}
 use lib.ListN.{length, getD}
 use lib.Dec.{eqb}
 use Rattle.model.specs.Bytes.{Bytes}
+use Rattle.model.specs.Record.{maxNames}
 use Rattle.model.specs.Layout.{recordLength, nameAt}
 
 -- two records, and by node its place in each plus 1, or 0 where the record does not hold its name
@@ -28,6 +29,6 @@ pub record Readable (ns : Names) (n : ℕ) : Type 0 where
   pub second-size : length (ns .second) ≡ recordLength
   pub firsts-size : length (ns .firsts) ≡ n
   pub seconds-size : length (ns .seconds) ≡ n
-  pub in-first : (v : ℕ) → v < n → getD (ns .firsts) v 0 ≤ 512
-  pub in-second : (v : ℕ) → v < n → getD (ns .seconds) v 0 ≤ 512
+  pub in-first : (v : ℕ) → v < n → getD (ns .firsts) v 0 ≤ maxNames
+  pub in-second : (v : ℕ) → v < n → getD (ns .seconds) v 0 ≤ maxNames
   pub held : (v : ℕ) → v < n → getD (ns .firsts) v 0 ≡ 0 → 0 < getD (ns .seconds) v 0

@@ -7,6 +7,7 @@ use Prim.Native.Nat.{ℕ, _+_, _-_, _≤_, _<_}
 use lib.ListN.{length, getD, set}
 use Rattle.model.specs.declared.Order.the-variants.{Less}
 use Rattle.model.specs.Bytes.{Bytes, compareBytes}
+use Rattle.model.specs.Record.{maxNames}
 use Rattle.model.specs.Layout.{recordLength, nameAt}
 use Rattle.union.specs.Names.{naming, nameOf}
 
@@ -30,8 +31,8 @@ pub record Numbered (b c : Bytes) (firsts seconds ones twos : List ℕ) (i j n :
 pub record Numberable (b c : Bytes) (m n : ℕ) (firsts seconds ones twos : List ℕ) : Type 0 where
   pub first-size : length b ≡ recordLength
   pub second-size : length c ≡ recordLength
-  pub first-few : m ≤ 512
-  pub second-few : n ≤ 512
+  pub first-few : m ≤ maxNames
+  pub second-few : n ≤ maxNames
   pub first-rise : NamesRise b m
   pub second-rise : NamesRise c n
   pub firsts-room : m + n ≤ length firsts

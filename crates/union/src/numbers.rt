@@ -4,8 +4,9 @@ use record::name_at;
 use text::compare;
 ghost use mathlib.Core.Path.{_≡_};
 ghost use mathlib.Core.Bool.{true};
-ghost use Prim.Native.Nat.{_+_, _≤_, _<_};
+ghost use Prim.Native.Nat.{_+_, _*_, _≤_, _<_};
 ghost use lib.ListN.{length};
+ghost use Rattle.model.specs.Record.{maxNames};
 ghost use Rattle.model.specs.Layout.{recordLength};
 ghost use Rattle.union.specs.Numbers.{Numbered, Numberable, NamesRise, Next, Passed};
 
@@ -17,7 +18,7 @@ struct Holders {
 
 // Which records hold the next name, with m names in the first and n in the second, and i and j of them passed.
 fn next_name(b: &[u8], c: &[u8], m: usize, n: usize, i: usize, j: usize) -> Holders
-    requires { ⌜ (length (now b) ≡ recordLength) × (length (now c) ≡ recordLength) × (m ≤ 512) × (n ≤ 512) × (i ≤ m) × (j ≤ n) × (i + j < m + n) ⌝ }
+    requires { ⌜ (length (now b) ≡ recordLength) × (length (now c) ≡ recordLength) × (m ≤ maxNames) × (n ≤ maxNames) × (i ≤ m) × (j ≤ n) × (i + j < m + n) ⌝ }
     ensures { λ r. ⌜ Next (now (b .entry)) (now (c .entry)) m n i j (r .first) (r .second) ⌝ }
 {
     if n <= j {
@@ -51,7 +52,7 @@ fn next_name(b: &[u8], c: &[u8], m: usize, n: usize, i: usize, j: usize) -> Hold
 // Gives the next name the number v in the tables of a record, of whose names `at` are passed: by number the place plus 1, by place the
 // number; if the record does not hold the name, by number 0. Gives how many of the record's names are passed then.
 fn number_name(places: &mut [u16], numbers: &mut [u16], at: usize, v: usize, held: bool) -> usize
-    requires { ⌜ (v < 1024) × (at ≤ 512) × (v < length (now places)) × (held ≡ true → at < length (now numbers)) ⌝ }
+    requires { ⌜ (v < 2 * maxNames) × (at ≤ maxNames) × (v < length (now places)) × (held ≡ true → at < length (now numbers)) ⌝ }
     ensures { λ r. ⌜ Passed (now (places .entry)) (now (numbers .entry)) at v held (now (places .exit)) (now (numbers .exit)) r ⌝ }
 {
     if !held {

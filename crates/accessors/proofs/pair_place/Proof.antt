@@ -2,6 +2,7 @@
 use mathlib.Core.Path.{_≡_, sym, _∙_}
 use Prim.Native.Nat.{_+_, _≤_, _<_}
 use lib.ListN.{length}
+use Rattle.model.specs.Record.{maxNames}
 use Rattle.record.proofs.Held.{Held}
 use Rattle.model.specs.Questions.{pairAtIn}
 use Rattle.model.specs.Opening.{faultOf}
@@ -26,8 +27,8 @@ inside c = rw (← c .before .before .pair-count .ensures .0) (c .before .if2 .l
 
 small : (c : tie.After-pair-at)
     → (c .pair-at .result + pairLength ≤ length (c .before .before .before .before .before .before .args .b .now))
-    × (fromPlace (c .before .before .before .before .before .before .args .b .now) (c .pair-at .result) < 512)
-    × (toPlace (c .before .before .before .before .before .before .args .b .now) (c .pair-at .result) < 512)
+    × (fromPlace (c .before .before .before .before .before .before .args .b .now) (c .pair-at .result) < maxNames)
+    × (toPlace (c .before .before .before .before .before .before .args .b .now) (c .pair-at .result) < maxNames)
 small c =
     let a = c .before .before .before .before .before .before .args in
     rw (c .pair-at .ensures) (pair-small (a .b .now) (fine (c .before .before .before)) (a .kind) (a .i) (inside c))

@@ -4,7 +4,7 @@ use Prim.Native.Nat.{_≤_}
 use native.Mathlib.Omega.{arith}
 use lib.ListN.{length}
 use Rattle.model.specs.Bytes.{Bytes}
-use Rattle.model.specs.Record.{withPair, withRelationships}
+use Rattle.model.specs.Record.{withPair, withRelationships, maxNameBytes}
 use Rattle.model.specs.Layout.{shown}
 use Rattle.model.specs.Outcome.{Outcome, keptOr}
 use Rattle.text.proofs.Put.{take-put}
@@ -18,7 +18,7 @@ abbrev start : tie.After-own-name → tie.Start
 start n = n .before .before .before .before .before .before .before
 
 -- the own name is short
-short : (n : tie.After-own-name) → length (n .own-name .result .now) ≤ 256
+short : (n : tie.After-own-name) → length (n .own-name .result .now) ≤ maxNameBytes
 short n = rw (n .own-name .ensures) (own-short (start n .args .buffer .now) (start n .pre .0))
 
 -- and it is what was copied

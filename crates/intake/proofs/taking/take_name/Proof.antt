@@ -2,6 +2,7 @@
 use mathlib.Core.Path.{_∙_}
 use lib.ListN.{length}
 use borrow.Author.Tests.{lt-ltb}
+use Rattle.model.specs.Record.{maxNameBytes}
 use Rattle.sorted.specs.Tables.{namesIn}
 use Rattle.intake.proofs.Progress.{name-taken}
 use native.Mathlib.Omega.{arith}
@@ -12,7 +13,7 @@ use Rattle.intake.proofs.taking.take_name.Tie as tie
 returns : tie.Need-returns
 returns c =
     let x = c .before .before .before .before .before .args .name .now in
-    (rw (lt-ltb 256 (length x) (c .if1 .taken)), λ h. absurd (omega (arith, c .if1 .taken)))
+    (rw (lt-ltb maxNameBytes (length x) (c .if1 .taken)), λ h. absurd (omega (arith, c .if1 .taken)))
 
 copy-requires : tie.Need-copy-requires
 copy-requires c κs = search needs

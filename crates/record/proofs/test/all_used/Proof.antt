@@ -1,6 +1,7 @@
 -- All places below n are marked exactly if all are used.
 use mathlib.Core.Path.{_∙_}
 use lib.ListN.{drop}
+use Rattle.model.specs.Record.{maxNames}
 use Rattle.record.specs.Test.{pairsAt}
 use Rattle.record.proofs.Words.{under-weaken}
 use Rattle.record.proofs.Marks.{marks-used}
@@ -39,7 +40,7 @@ returns c =
     let z2 = c .before .before .before .before .before .mark-pairs2 .ensures in
     let z3 = c .before .all-marked .ensures in
     let z4 = c .before .before .before .before .before .before .before .before .before .before .before .before .before .before .before .before .no-marks .ensures in
-    z3 ∙ rw (z2, z1, z0, z4) (marks-used (a .own) (pairsAt (a .s) (drop (a .subgraph) (a .b .now))) (pairsAt (a .t) (drop (a .translation) (a .b .now))) (a .n) 512 (search needs) (search needs) (s .pre .1 .0) (s .pre .1 .1))
+    z3 ∙ rw (z2, z1, z0, z4) (marks-used (a .own) (pairsAt (a .s) (drop (a .subgraph) (a .b .now))) (pairsAt (a .t) (drop (a .translation) (a .b .now))) (a .n) maxNames (search needs) (search needs) (s .pre .1 .0) (s .pre .1 .1))
 
 pub all-used-spec : {M : Type 1} → statement M
 all-used-spec =

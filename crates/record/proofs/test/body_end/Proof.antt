@@ -2,6 +2,7 @@
 use mathlib.Core.Path.{_≡_, refl, sym, _∙_}
 use Prim.Native.Nat.{_+_, _*_, _≤_}
 use lib.ListN.{drop}
+use Rattle.model.specs.Record.{maxNameBytes}
 use Rattle.record.specs.Test.{entriesAt, bodyEnd}
 use Rattle.record.proofs.Steps.{bodyEnd-end, bodyEnd-gap, bodyEnd-long, bodyEnd-more}
 use native.Mathlib.Omega.{arith}
@@ -11,7 +12,7 @@ use Rattle.record.proofs.test.body_end.Tie as tie
 use Rattle.model.specs.Layout.{countsLength, entryLength, entryAt}
 
 abbrev Inv-loop : tie.InvT-loop
-Inv-loop b n at₀ p₀ left₀ at p left = (p + entryLength * left ≡ entryAt n) × (left ≤ n) × (at + 256 * left ≤ 256 * n) × (bodyEnd 0 (entriesAt n (drop countsLength b)) ≡ bodyEnd at (entriesAt left (drop p b)))
+Inv-loop b n at₀ p₀ left₀ at p left = (p + entryLength * left ≡ entryAt n) × (left ≤ n) × (at + maxNameBytes * left ≤ maxNameBytes * n) × (bodyEnd 0 (entriesAt n (drop countsLength b)) ≡ bodyEnd at (entriesAt left (drop p b)))
 
 abbrev μ-loop : tie.MeasureT-loop
 μ-loop b n at₀ p₀ left₀ at p left = left

@@ -3,6 +3,7 @@ use mathlib.Core.Path.{_≡_}
 use mathlib.Core.Bool.{true}
 use Prim.Native.Nat.{_+_, _-_, _*_, _≤_, _<_}
 use lib.ListN.{length, getD}
+use Rattle.model.specs.Record.{maxNameBytes, maxNames}
 use Rattle.model.specs.declared.Kind.{Kind}
 use Rattle.model.specs.Bytes.{Bytes}
 use Rattle.model.specs.Layout.{recordLength, pairLength, fromPlace, toPlace, shown, decode, pairCount}
@@ -56,7 +57,7 @@ module _ (t : tie.In-loop Inv-loop μ-loop) where
   read-within : (l .before .table-at .result + pairLength * l .loop .i + pairLength ≤ length other) × (length other ≡ recordLength)
   read-within = (omega (arith, pair-inside other decodes-other kind (l .loop .i) inside, l .before .table-at .ensures .0), is-held other decodes-other .long)
 
-  places : (fromPlace other (l .before .table-at .result + pairLength * l .loop .i) < 512) × (toPlace other (l .before .table-at .result + pairLength * l .loop .i) < 512)
+  places : (fromPlace other (l .before .table-at .result + pairLength * l .loop .i) < maxNames) × (toPlace other (l .before .table-at .result + pairLength * l .loop .i) < maxNames)
   places =
       let h = places-inside other decodes-other kind (l .loop .i) inside (l .before .table-at .result) (l .before .table-at .ensures .0) in
       (omega (arith, h .0, h .2), omega (arith, h .1, h .2))
@@ -72,7 +73,7 @@ module _ (n : tie.After-name-at2 Inv-loop μ-loop) where
   abbrev to : Bytes
   to = n .name-at2 .result .now
 
-  read : (getD (pairsOf (kind turn) (shown (other turn))) (l turn .loop .i) none-pair ≡ record { from = from; to = to }) × (length from ≤ 256) × (length to ≤ 256)
+  read : (getD (pairsOf (kind turn) (shown (other turn))) (l turn .loop .i) none-pair ≡ record { from = from; to = to }) × (length from ≤ maxNameBytes) × (length to ≤ maxNameBytes)
   read =
       pair-read (other turn) (decodes-other turn) (kind turn) (l turn .loop .i) (inside turn) (l turn .before .table-at .result) (l turn .before .table-at .ensures .0)
       (n .before .before .before .pair-from .result) (n .before .pair-to .result) from to

@@ -4,6 +4,7 @@ use mathlib.Core.Bool.{true}
 use mathlib.Core.List.{List}
 use Prim.Native.Nat.{ℕ, _+_, _-_, _≤_, _<_}
 use lib.ListN.{length}
+use Rattle.model.specs.Record.{maxNames}
 use Rattle.union.proofs.Numbering.{Numbering, numbering-start, numbering-end, numbering-turn, first-more, second-more}
 use native.Mathlib.Omega.{arith}
 use Rattle.union.proofs.numbers.number_names.Statement.{statement}
@@ -30,8 +31,8 @@ pub record HasRoom (m n i j v : ℕ) (firsts seconds ones twos : List ℕ) : Typ
   pub below : v < m + n
   pub first-left : i ≤ m
   pub second-left : j ≤ n
-  pub first-few : m ≤ 512
-  pub second-few : n ≤ 512
+  pub first-few : m ≤ maxNames
+  pub second-few : n ≤ maxNames
   pub firsts-room : m + n ≤ length firsts
   pub seconds-room : m + n ≤ length seconds
   pub ones-room : m ≤ length ones
