@@ -9,7 +9,7 @@ use Rattle.model.specs.declared.Kind.the-variants.{Subgraph, Translation
 use Rattle.model.specs.Bytes.{Bytes, sameBytes}
 use Rattle.model.specs.Record.{Pair, GraphName, names}
 use Rattle.model.specs.Layout.{bodyOf}
-use Rattle.model.specs.Opening.{Given, refuses, gives, andThen, opened, recordIn, twoRecords}
+use Rattle.model.specs.Opening.{Given, gives, andThen, opened, recordIn, twoRecords}
 
 -- f of the record
 unfoldable pub asked : {A : Type 0} → Bytes → (GraphName → A) → Given A

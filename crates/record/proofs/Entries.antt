@@ -2,23 +2,20 @@
 use mathlib.Core.Path.{_≡_, refl, ap}
 use mathlib.Core.Bool.{Bool, true, false, cond, _&&_, _||_}
 use mathlib.Core.List.{List, [], _∷_, _++_, append-assoc}
-use Prim.Native.Nat.{ℕ, zero, suc, _+_, _-_, _≤_, _<_}
+use Prim.Native.Nat.{ℕ, zero, suc, _+_, _-_, _*_, _≤_, _<_}
 use native.Mathlib.Omega.{arith}
 use lib.ListN.{length, take, drop, getD, length-append, length-drop, take-append-drop}
-use lib.Seq.{take-append-seam, drop-append-seam, drop-drop, length-take-le}
+use lib.Seq.{take-add, take-append-seam, drop-append-seam, drop-drop, length-take-le}
 use lib.Dec.{leb, ltb, eqb}
 use borrow.Author.Tests.{eq-eqb, eqb-true, leb-true, le-leb, ltb-false, le-ltb}
 use Rattle.model.specs.Bytes.{Bytes}
 use Rattle.model.specs.Record.{anyLong, bodies, maxNameBytes, maxBodiesBytes}
-use Rattle.model.specs.Layout.{recordLength, entries}
+use Rattle.model.specs.Numbers.{number}
+use Rattle.model.specs.Layout.{recordLength, entryLength, entries}
 use Rattle.text.proofs.Tests.{both-true, either-false}
-use Rattle.record.specs.Test.{bodyEnd, cut, Under}
-use Rattle.record.specs.Coded.{lePairs, spans}
-
-pub lePairs-spans : (start : ℕ) (ns : List Bytes) → lePairs (spans start ns) ≡ entries start ns
-unfolding lePairs spans entries
-lePairs-spans start [] = refl
-lePairs-spans start (n ∷ ns) = rw (lePairs-spans (start + length n) ns)
+use Rattle.record.specs.Test.{rowsAt, entriesAt, bodyEnd, cut, Under}
+use Rattle.record.specs.Coded.{spans}
+use Rattle.record.proofs.Words.{AllBytes, whole, two-again, bytes-drop}
 
 pub length-spans : (start : ℕ) (ns : List Bytes) → length (spans start ns) ≡ length ns
 unfolding spans
@@ -55,6 +52,24 @@ under-spans start (n ∷ ns) h k =
     let p = short (length n) (anyLong ns) h in
     let l = length-append n (bodies ns) in
     (omega arith, omega arith, under-spans (start + length n) ns (p .1) (omega arith))
+
+-- reading what was written
+pub entries-read : (start : ℕ) (ns : List Bytes) (r : Bytes) → Under 65536 (spans start ns) → entriesAt (length ns) (entries start ns ++ r) ≡ spans start ns
+unfolding rowsAt entries spans Under
+entries-read start [] r u = refl
+entries-read start (n ∷ ns) r u = rw (whole start (u .0), whole (length n) (u .1), entries-read (start + length n) ns r (u .2))
+
+-- writing what was read
+pub entries-again : (start : ℕ) (ns : List Bytes) (b : Bytes) → AllBytes b → entryLength * length ns ≤ length b → spans start ns ≡ entriesAt (length ns) b
+    → entries start ns ≡ take (entryLength * length ns) b
+unfolding rowsAt entries spans
+entries-again start [] b h k e = refl
+entries-again start (n ∷ ns) b h k e =
+    let d : entryLength * suc (length ns) ≡ entryLength + entryLength * length ns = omega arith in
+    let s : start ≡ number b 0 = ap (λ (es : List (ℕ × ℕ)). getD es 0 (0, 0) .0) e in
+    let l : length n ≡ number b 2 = ap (λ (es : List (ℕ × ℕ)). getD es 0 (0, 0) .1) e in
+    let rest = entries-again (start + length n) ns (drop entryLength b) (bytes-drop entryLength b h) (rw length-drop (omega arith)) (ap (drop 1) e) in
+    rw (d, take-add entryLength (entryLength * length ns) b, ← two-again b h (omega arith), ← s, ← l, rest)
 
 -- ------------------------------------------------------------------ from entries
 

@@ -1,13 +1,15 @@
--- Rows that begin with two numbers, of any width; and pairs of numbers as bytes, where reading and writing undo each other.
+-- Two numbers written again; pairs of numbers as bytes, where reading and writing undo each other; and rows that begin with two numbers, of
+-- any width.
 use mathlib.Core.Path.{_≡_, refl, ap}
 use mathlib.Core.List.{List, [], _∷_, _++_}
 use Prim.Native.Nat.{ℕ, zero, suc, _+_, _*_, _/_, _%_, _≤_, _<_}
 use native.Mathlib.Omega.{arith}
 use native.Mathlib.Nat.{add-zero, mul-zero, mul-suc}
-use lib.ListN.{length, take, drop, getD}
-use lib.Seq.{drop-drop, getD-drop}
+use lib.ListN.{length, take, drop, getD, length-drop}
+use lib.Seq.{drop-drop, getD-drop, take-add}
 use Rattle.model.specs.Bytes.{Bytes}
-use Rattle.model.specs.Numbers.{number}
+use Rattle.model.specs.Numbers.{le16, number}
+use Rattle.model.specs.Layout.{pairLength}
 use Rattle.record.specs.Test.{rowsAt, pairsAt, Under}
 use Rattle.record.specs.Coded.{lePairs}
 
@@ -20,17 +22,7 @@ unfolding Under
 under-weaken m n [] h u = tt
 under-weaken m n (p ∷ ps) h u = (omega arith, omega arith, under-weaken m n ps h (u .2))
 
-pub length-lePairs : (ps : List (ℕ × ℕ)) → length (lePairs ps) ≡ 4 * length ps
-unfolding lePairs
-length-lePairs [] = refl
-length-lePairs (p ∷ ps) = omega (arith, length-lePairs ps)
-
-pub length-rowsAt : (w n : ℕ) (b : Bytes) → length (rowsAt w n b) ≡ n
-unfolding rowsAt
-length-rowsAt w zero b = refl
-length-rowsAt w (suc n) b = ap suc (length-rowsAt w n (drop w b))
-
-whole : (x : ℕ) → x < 65536 → x % 256 + 256 * (x / 256 % 256) ≡ x
+pub whole : (x : ℕ) → x < 65536 → x % 256 + 256 * (x / 256 % 256) ≡ x
 whole x h = omega arith
 
 low : (x y : ℕ) → x < 256 → (x + 256 * y) % 256 ≡ x
@@ -39,30 +31,45 @@ low x y h = omega arith
 high : (x y : ℕ) → x < 256 → y < 256 → (x + 256 * y) / 256 % 256 ≡ y
 high x y h k = omega arith
 
+-- the first two numbers of b, written again
+pub two-again : (b : Bytes) → AllBytes b → 4 ≤ length b → le16 (number b 0) ++ le16 (number b 2) ≡ take 4 b
+two-again [] h k = absurd (omega arith)
+two-again (x ∷ []) h k = absurd (omega arith)
+two-again (x ∷ y ∷ []) h k = absurd (omega arith)
+two-again (x ∷ y ∷ z ∷ []) h k = absurd (omega arith)
+two-again (x ∷ y ∷ z ∷ w ∷ r) h k = rw (low x y (h 0), high x y (h 0) (h 1), low z w (h 2), high z w (h 2) (h 3))
+
+pub bytes-drop : (a : ℕ) (b : Bytes) → AllBytes b → AllBytes (drop a b)
+bytes-drop a b h i = rw getD-drop (h (a + i))
+
+-- ------------------------------------------------------------------ pairs
+
+pub length-lePairs : (ps : List (ℕ × ℕ)) → length (lePairs ps) ≡ pairLength * length ps
+unfolding lePairs
+length-lePairs [] = refl
+length-lePairs (p ∷ ps) = omega (arith, length-lePairs ps)
+
 -- reading what was written
-pub pairsAt-lePairs : (ps : List (ℕ × ℕ)) (r : Bytes) → Under 65536 ps → pairsAt (length ps) (lePairs ps ++ r) ≡ ps
+pub pairs-read : (ps : List (ℕ × ℕ)) (r : Bytes) → Under 65536 ps → pairsAt (length ps) (lePairs ps ++ r) ≡ ps
 unfolding rowsAt lePairs Under
-pairsAt-lePairs [] r u = refl
-pairsAt-lePairs (p ∷ ps) r u = rw (whole (p .0) (u .0), whole (p .1) (u .1), pairsAt-lePairs ps r (u .2))
+pairs-read [] r u = refl
+pairs-read (p ∷ ps) r u = rw (whole (p .0) (u .0), whole (p .1) (u .1), pairs-read ps r (u .2))
 
 -- writing what was read
-pub lePairs-pairsAt : (n : ℕ) (b : Bytes) → AllBytes b → 4 * n ≤ length b → lePairs (pairsAt n b) ≡ take (4 * n) b
+pub pairs-again : (n : ℕ) (b : Bytes) → AllBytes b → pairLength * n ≤ length b → lePairs (pairsAt n b) ≡ take (pairLength * n) b
 unfolding rowsAt lePairs
-lePairs-pairsAt zero b h k = refl
-lePairs-pairsAt (suc n) [] h k = absurd (omega arith)
-lePairs-pairsAt (suc n) (x ∷ []) h k = absurd (omega arith)
-lePairs-pairsAt (suc n) (x ∷ y ∷ []) h k = absurd (omega arith)
-lePairs-pairsAt (suc n) (x ∷ y ∷ z ∷ []) h k = absurd (omega arith)
-lePairs-pairsAt (suc n) (x ∷ y ∷ z ∷ w ∷ r) h k =
-    let e : 4 * suc n ≡ suc (suc (suc (suc (4 * n)))) = omega arith in
-    rw (
-      e,
-      low x y (h 0),
-      high x y (h 0) (h 1),
-      low z w (h 2),
-      high z w (h 2) (h 3),
-      lePairs-pairsAt n r (λ i. h (suc (suc (suc (suc i))))) (omega arith),
-    )
+pairs-again zero b h k = refl
+pairs-again (suc n) b h k =
+    let e : pairLength * suc n ≡ pairLength + pairLength * n = omega arith in
+    let rest = pairs-again n (drop pairLength b) (bytes-drop pairLength b h) (rw length-drop (omega arith)) in
+    rw (e, take-add pairLength (pairLength * n) b, ← two-again b h (omega arith), rest)
+
+-- ------------------------------------------------------------------ rows
+
+pub length-rowsAt : (w n : ℕ) (b : Bytes) → length (rowsAt w n b) ≡ n
+unfolding rowsAt
+length-rowsAt w zero b = refl
+length-rowsAt w (suc n) b = ap suc (length-rowsAt w n (drop w b))
 
 -- one step at a place
 pub rowsAt-step : (w n at : ℕ) (b : Bytes) → rowsAt w (suc n) (drop at b) ≡ (number b at, number b (at + 2)) ∷ rowsAt w n (drop (at + w) b)

@@ -1,5 +1,5 @@
 -- The parts of a record as they are written, number by number and name by name.
-use mathlib.Core.Path.{_≡_, refl, sym, ap, _∙_}
+use mathlib.Core.Path.{_≡_, refl, ap, _∙_}
 use mathlib.Core.List.{List, [], _∷_, _++_}
 use Prim.Native.Nat.{ℕ, _+_, _*_, _≤_}
 use native.Mathlib.Omega.{arith}
@@ -9,7 +9,6 @@ use Rattle.model.specs.Numbers.{le16}
 use Rattle.model.specs.Layout.{countsLength, entryLength, entries}
 use Rattle.text.proofs.Put.{put-rest, length-put}
 use Rattle.record.specs.Coded.{lePairs, countsOf, entryOf}
-use Rattle.record.proofs.Words.{length-lePairs}
 
 -- two numbers, one behind the other
 module _ (l l₁ l₂ : Bytes) (p q u v : ℕ) (h : p + 4 ≤ length l) (a : l₁ ≡ put l p (le16 u)) (b : q ≡ p + 2) (c : l₂ ≡ put l₁ q (le16 v)) where
@@ -32,19 +31,17 @@ pub pairs-cons : (p : ℕ × ℕ) (ps : List (ℕ × ℕ)) → lePairs (p ∷ ps
 unfolding lePairs
 pairs-cons p ps = refl
 
--- the four counts
+-- ------------------------------------------------------------------ the four counts
+
 pub counts-written : (l l₁ l₂ l₃ l₄ : Bytes) (p q r n o s t : ℕ) → countsLength ≤ length l → l₁ ≡ put l 0 (le16 n) → p ≡ 2 → l₂ ≡ put l₁ p (le16 o) → q ≡ p + 2
     → l₃ ≡ put l₂ q (le16 s) → r ≡ q + 2 → l₄ ≡ put l₃ r (le16 t) → l₄ ≡ put l 0 (countsOf n o s t)
 counts-written l l₁ l₂ l₃ l₄ p q r n o s t h a b c d e f g =
-    let k₁ = length-lePairs ((n, o) ∷ []) in
-    let k₂ = length-lePairs ((s, t) ∷ []) in
-    let w = pair-written l l₁ l₂ 0 p n o (omega arith) a b c in
-    let long = ap length w ∙ length-put l 0 (lePairs ((n, o) ∷ [])) (omega arith) in
-    pair-written l₂ l₃ l₄ q r s t (omega arith) e f g ∙ put-rest l l₂ 0 q (lePairs ((n, o) ∷ [])) (lePairs ((s, t) ∷ [])) (omega arith) w (omega arith)
-    ∙ ap (put l 0) (sym (pairs-cons (n, o) ((s, t) ∷ [])))
+    let w = numbers-written l l₁ l₂ 0 p n o (omega arith) a b c in
+    let long = ap length w ∙ length-put l 0 (le16 n ++ le16 o) (omega arith) in
+    numbers-written l₂ l₃ l₄ q r s t (omega arith) e f g ∙ put-rest l l₂ 0 q (le16 n ++ le16 o) (le16 s ++ le16 t) (omega arith) w (omega arith)
 
 pub length-counts : (n o s t : ℕ) → length (countsOf n o s t) ≡ countsLength
-length-counts n o s t = length-lePairs ((n, o) ∷ (s, t) ∷ [])
+length-counts n o s t = refl
 
 -- ------------------------------------------------------------------ entries
 

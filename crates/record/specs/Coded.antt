@@ -38,7 +38,7 @@ lePairs (p ∷ ps) = le16 (p .0) ++ (le16 (p .1) ++ lePairs ps)
 
 -- the bytes of the four counts
 abbrev pub countsOf : ℕ → ℕ → ℕ → ℕ → Bytes
-countsOf names own subgraph translation = lePairs ((names, own) ∷ (subgraph, translation) ∷ [])
+countsOf names own subgraph translation = le16 names ++ (le16 own ++ (le16 subgraph ++ le16 translation))
 
 -- the bytes of a name's entry
 abbrev pub entryOf : ℕ → Bytes → Bytes

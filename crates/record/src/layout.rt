@@ -10,10 +10,11 @@ use text::read16;
 ghost use mathlib.Core.Path.{_≡_};
 ghost use Prim.Native.Nat.{_+_, _*_, _≤_, _<_};
 ghost use lib.ListN.{length};
+ghost use Rattle.model.specs.declared.Kind.the-variants.{Subgraph, Translation};
 ghost use Rattle.model.specs.Layout.{countsLength, entryLength, pairLength, entryAt, nameCount, ownNumber, pairCount, bodyStart, bodyLength, tableAt, bodiesAt, fromPlace, toPlace, nameAt, shown};
 ghost use Rattle.model.specs.Opening.{isSome};
 ghost use Rattle.model.specs.Outcome.{nameOr};
-ghost use Rattle.record.specs.Reader.{IsNumber, IsPart};
+ghost use Rattle.record.specs.Reader.{IsCount, IsPart};
 
 // The numbers that a record begins with: how many names; the own name, by its place counted from 1, or 0 for none; how many pairs of each
 // kind.
@@ -48,7 +49,7 @@ pub fn body_length(b: &[u8], i: usize) -> usize
 
 // Where the body of the name at place i stands, in a buffer with these numbers of names and pairs.
 pub fn part_of(b: &[u8], names: usize, subgraph: usize, translation: usize, i: usize) -> Part
-    requires { ⌜ IsNumber (now b) 0 names × IsNumber (now b) 4 subgraph × IsNumber (now b) 6 translation × (entryAt i + entryLength ≤ length (now b)) ⌝ }
+    requires { ⌜ IsCount (nameCount (now b)) names × IsCount (pairCount Subgraph (now b)) subgraph × IsCount (pairCount Translation (now b)) translation × (entryAt i + entryLength ≤ length (now b)) ⌝ }
     ensures { λ r. ⌜ IsPart (now (b .entry)) i r ⌝ }
 {
     let bodies = bodies_after(names, subgraph + translation);

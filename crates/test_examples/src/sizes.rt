@@ -6,8 +6,6 @@ use parse::Answer;
 use record::empty_record;
 use test_output::put;
 use test_output::put_text;
-ghost use mathlib.Core.Path.{_≡_};
-ghost use lib.ListN.{length};
 
 // Writes the decimal digit n % 10.
 fn put_digit(out: &mut [u8], at: usize, n: usize) -> usize {

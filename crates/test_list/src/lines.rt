@@ -1,5 +1,4 @@
 // Parts of a line of the list: words between spaces, numbers in decimal, and bytes.
-ghost use mathlib.Core.Path.{_≡_};
 ghost use Prim.Native.Nat.{_≤_, _<_};
 ghost use lib.ListN.{length};
 

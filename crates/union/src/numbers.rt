@@ -8,7 +8,7 @@ ghost use Prim.Native.Nat.{_+_, _*_, _≤_, _<_};
 ghost use lib.ListN.{length};
 ghost use Rattle.model.specs.Record.{maxNames};
 ghost use Rattle.model.specs.Layout.{recordLength};
-ghost use Rattle.union.specs.Numbers.{Numbered, Numberable, NamesRise, Next, Passed};
+ghost use Rattle.union.specs.Numbers.{Numbered, Numberable, Next, Passed};
 
 // Which of the two records hold a name.
 struct Holders {

@@ -43,8 +43,9 @@ use Rattle.text.proofs.read16 as read16
 use Rattle.text.proofs.read16.Symbol as read16-def
 use Rattle.text.proofs.read16.Symbol.{name as #read16}
 use Rattle.text.proofs.read16.Met as read16-thm
+use Rattle.model.specs.Numbers.{number}
 use Rattle.model.specs.Layout.{countsLength}
-use Rattle.record.specs.Reader.{IsNumber}
+use Rattle.record.specs.Reader.{IsCount}
 use Rattle.record.specs.declared.reader.Reader.{Reader}
 use Rattle.record.proofs.reader.Reader as T
 use Rattle.record.proofs.reader.Reader.Laws as T′
@@ -90,14 +91,14 @@ module _ {M : Type 1} (𝓤 : URA M) (H : Heap 𝓤) (A : Atoms 𝓤) (W : Given
   abbrev back : ℕ → Val → Item 𝓤
   back at u = later (some (λ (n : ℕ). ((‵ (flft κ q) ⊛ ‵ ftrue) ⊛ ‵ (usize .own n (u ∷ []))) ⊛ raw (ensured 𝓤 H A read16.ended (read16.clauses 𝓤 H A mem run) (κ, tt) (s, (at, tt)) tt n)))
 
-  said : (at n : ℕ) → ent 𝓤 (ensured 𝓤 H A read16.ended (read16.clauses 𝓤 H A mem run) (κ, tt) (s, (at, tt)) tt n) (fact 𝓤 (IsNumber (now s) at n))
-  said at n = exE 𝓤 _ (λ ws. snd∗ 𝓤 (sem 𝓤 H A (lasts read16.ended (κ, tt) (s, (at, tt)) ws)) (fact 𝓤 (IsNumber (now s) at n)))
+  said : (at n : ℕ) → ent 𝓤 (ensured 𝓤 H A read16.ended (read16.clauses 𝓤 H A mem run) (κ, tt) (s, (at, tt)) tt n) (fact 𝓤 (IsCount (number (now s) at) n))
+  said at n = exE 𝓤 _ (λ ws. snd∗ 𝓤 (sem 𝓤 H A (lasts read16.ended (κ, tt) (s, (at, tt)) ws)) (fact 𝓤 (IsCount (number (now s) at) n)))
 
   -- the reader that is made of s and four numbers
   abbrev made : ℕ → ℕ → ℕ → ℕ → Reader
   made n o g t = record { bytes = s; names = n; own = o; subgraph = g; translation = t }
 
-  exits : (n o g t : ℕ) → IsNumber (now s) 0 n × IsNumber (now s) 2 o × IsNumber (now s) 4 g × IsNumber (now s) 6 t → (n < 2 ^ 64) × (o < 2 ^ 64) × (g < 2 ^ 64) × (t < 2 ^ 64) → ent 𝓤 (⋆ 𝓤 H A ((‵ (flft κ q) ⊛ ‵ ftrue) ∷ ‵ Own ∷ [])) (Post (T′.lowered (made n o g t)))
+  exits : (n o g t : ℕ) → IsCount (number (now s) 0) n × IsCount (number (now s) 2) o × IsCount (number (now s) 4) g × IsCount (number (now s) 6) t → (n < 2 ^ 64) × (o < 2 ^ 64) × (g < 2 ^ 64) × (t < 2 ^ 64) → ent 𝓤 (⋆ 𝓤 H A ((‵ (flft κ q) ⊛ ‵ ftrue) ∷ ‵ Own ∷ [])) (Post (T′.lowered (made n o g t)))
   exits n o g t e fits =
       qed W ((‵ (flft κ q) ⊛ ‵ ftrue) ∷ ‵ Own ∷ []) ∵
       suffices ! _ (ends-at 𝓤 H A open′.ended stayed (open′.clauses 𝓤 H A mem run) W (((κ, tt), (q, tt), tt, (s, tt), (v ∷ [], tt)), tt) (T′.lowered (made n o g t)) (made n o g t) (tt, tt) (tt, tt)) $
@@ -116,16 +117,16 @@ module _ {M : Type 1} (𝓤 : URA M) (H : Heap 𝓤) (A : Atoms 𝓤) (W : Given
         -- [what s owns; the token; room for _5; …; room for _4; …; room for _3; …; room for _2; …; _1; …; room for _0; …]
         move ! (12 ∷ 13 ∷ []) $
         use2 W (raw (Read 𝓤 H A mem run .pre (to 0)) ⊛ ‵ Own) (goes 0 (lit< tt) (lit< tt)) $ split ! $ calls-at ! fm (Read 𝓤 H A mem run) known (to 0) (and-then ! (load ! (from ! (stop !)) (look ! 10 refl)) (and-then ! (lit ! tt) (no-more !))) (λ u₀. use1 W (back 0 u₀) (id⊢ 𝓤 _) $ await ! tt $ pick ! (λ n₀.
-        split ! $ move ! (1 ∷ []) $ use1 W (raw (fact 𝓤 (IsNumber (now s) 0 n₀))) (said 0 n₀) $ heard ! (IsNumber (now s) 0 n₀) (λ e₀. split ! $ move ! (1 ∷ []) $ facts ! usize (Is usize) (shows 𝓤 H A usize) n₀ (u₀ ∷ []) (λ i₀.
+        split ! $ move ! (1 ∷ []) $ use1 W (raw (fact 𝓤 (IsCount (number (now s) 0) n₀))) (said 0 n₀) $ heard ! (IsCount (number (now s) 0) n₀) (λ e₀. split ! $ move ! (1 ∷ []) $ facts ! usize (Is usize) (shows 𝓤 H A usize) n₀ (u₀ ∷ []) (λ i₀.
         land ! (from ! (stop !)) (init ! 8 refl (uint-lawful 𝓤 H A W w64 .typed n₀ _ i₀ .0)) $ rewrite ! 8 (λ (z : Val). ‵ (fat fullShare (tyInt w64) l₂ 0 z)) (ap only (i₀ .0)) refl $ move ! (1 ∷ 0 ∷ []) $
         use2 W (raw (Read 𝓤 H A mem run .pre (to 2)) ⊛ ‵ Own) (goes 2 (lit< tt) (lit< tt)) $ split ! $ calls-at ! fm (Read 𝓤 H A mem run) known (to 2) (and-then ! (load ! (from ! (stop !)) (look ! 10 refl)) (and-then ! (lit ! tt) (no-more !))) (λ u₁. use1 W (back 2 u₁) (id⊢ 𝓤 _) $ await ! tt $ pick ! (λ n₁.
-        split ! $ move ! (1 ∷ []) $ use1 W (raw (fact 𝓤 (IsNumber (now s) 2 n₁))) (said 2 n₁) $ heard ! (IsNumber (now s) 2 n₁) (λ e₁. split ! $ move ! (1 ∷ []) $ facts ! usize (Is usize) (shows 𝓤 H A usize) n₁ (u₁ ∷ []) (λ i₁.
+        split ! $ move ! (1 ∷ []) $ use1 W (raw (fact 𝓤 (IsCount (number (now s) 2) n₁))) (said 2 n₁) $ heard ! (IsCount (number (now s) 2) n₁) (λ e₁. split ! $ move ! (1 ∷ []) $ facts ! usize (Is usize) (shows 𝓤 H A usize) n₁ (u₁ ∷ []) (λ i₁.
         land ! (from ! (stop !)) (init ! 6 refl (uint-lawful 𝓤 H A W w64 .typed n₁ _ i₁ .0)) $ rewrite ! 6 (λ (z : Val). ‵ (fat fullShare (tyInt w64) l₃ 0 z)) (ap only (i₁ .0)) refl $ move ! (1 ∷ 0 ∷ []) $
         use2 W (raw (Read 𝓤 H A mem run .pre (to 4)) ⊛ ‵ Own) (goes 4 (lit< tt) (lit< tt)) $ split ! $ calls-at ! fm (Read 𝓤 H A mem run) known (to 4) (and-then ! (load ! (from ! (stop !)) (look ! 10 refl)) (and-then ! (lit ! tt) (no-more !))) (λ u₂. use1 W (back 4 u₂) (id⊢ 𝓤 _) $ await ! tt $ pick ! (λ n₂.
-        split ! $ move ! (1 ∷ []) $ use1 W (raw (fact 𝓤 (IsNumber (now s) 4 n₂))) (said 4 n₂) $ heard ! (IsNumber (now s) 4 n₂) (λ e₂. split ! $ move ! (1 ∷ []) $ facts ! usize (Is usize) (shows 𝓤 H A usize) n₂ (u₂ ∷ []) (λ i₂.
+        split ! $ move ! (1 ∷ []) $ use1 W (raw (fact 𝓤 (IsCount (number (now s) 4) n₂))) (said 4 n₂) $ heard ! (IsCount (number (now s) 4) n₂) (λ e₂. split ! $ move ! (1 ∷ []) $ facts ! usize (Is usize) (shows 𝓤 H A usize) n₂ (u₂ ∷ []) (λ i₂.
         land ! (from ! (stop !)) (init ! 4 refl (uint-lawful 𝓤 H A W w64 .typed n₂ _ i₂ .0)) $ rewrite ! 4 (λ (z : Val). ‵ (fat fullShare (tyInt w64) l₄ 0 z)) (ap only (i₂ .0)) refl $ move ! (1 ∷ 0 ∷ []) $
         use2 W (raw (Read 𝓤 H A mem run .pre (to 6)) ⊛ ‵ Own) (goes 6 (lit< tt) (lit< tt)) $ split ! $ calls-at ! fm (Read 𝓤 H A mem run) known (to 6) (and-then ! (load ! (from ! (stop !)) (look ! 10 refl)) (and-then ! (lit ! tt) (no-more !))) (λ u₃. use1 W (back 6 u₃) (id⊢ 𝓤 _) $ await ! tt $ pick ! (λ n₃.
-        split ! $ move ! (1 ∷ []) $ use1 W (raw (fact 𝓤 (IsNumber (now s) 6 n₃))) (said 6 n₃) $ heard ! (IsNumber (now s) 6 n₃) (λ e₃. split ! $ move ! (1 ∷ []) $ facts ! usize (Is usize) (shows 𝓤 H A usize) n₃ (u₃ ∷ []) (λ i₃.
+        split ! $ move ! (1 ∷ []) $ use1 W (raw (fact 𝓤 (IsCount (number (now s) 6) n₃))) (said 6 n₃) $ heard ! (IsCount (number (now s) 6) n₃) (λ e₃. split ! $ move ! (1 ∷ []) $ facts ! usize (Is usize) (shows 𝓤 H A usize) n₃ (u₃ ∷ []) (λ i₃.
         land ! (from ! (stop !)) (init ! 2 refl (uint-lawful 𝓤 H A W w64 .typed n₃ _ i₃ .0)) $ rewrite ! 2 (λ (z : Val). ‵ (fat fullShare (tyInt w64) l₅ 0 z)) (ap only (i₃ .0)) refl $
         -- [the token; what s owns; _5; …; _4; …; _3; …; _2; …; _1; …; room for _0; …]
         assigns ! (agg ! (and-then ! (load ! (from ! (stop !)) (look ! 10 refl)) (and-then ! (load ! (from ! (stop !)) (look ! 8 refl)) (and-then ! (load ! (from ! (stop !)) (look ! 6 refl)) (and-then ! (load ! (from ! (stop !)) (look ! 4 refl)) (and-then ! (load ! (from ! (stop !)) (look ! 2 refl)) (no-more !))))))) (from ! (stop !))
