@@ -15,7 +15,7 @@ use Rattle.model.specs.Statements.{Ascending}
 use Rattle.record.proofs.Opening.{written-opened, written-refused}
 use Rattle.record.specs.Test.{Under}
 use Rattle.record.specs.Coded.{meaning}
-use Rattle.sorted.specs.Tables.{Tables, tables, bodyIn, readOut}
+use Rattle.sorted.specs.Tables.{Tables, tables, bodyIn, readOut, Kept}
 use Rattle.tables.specs.Judging.{Storable}
 
 module _ (name : Bytes) where
@@ -64,23 +64,19 @@ module _ (name : Bytes) (short : length name ≤ maxNameBytes) where
   unfolding Ascending Under
   alone-storable =
       let l = length-append name [] in
-      record {
-        kept = record {
-          order = tt;
-          short = rw (body-alone, le-ltb maxNameBytes (length name) short);
-          within = λ r m. ⊎-elim (λ (e : r ≡ length name). rw e (omega arith)) (λ (k : List·Memᴰ r []). absurd (List·Memᴰ·not-nil k)) (List·Memᴰ·cases-cons m);
-          total = rw body-alone (omega arith);
-          count = omega arith;
-          room = omega arith;
-          few = omega arith;
-          small = omega arith;
-          subgraph = record { order = tt; under = tt; within = omega arith };
-          translation = record { order = tt; under = tt; within = omega arith };
-        };
-        own-within = omega arith;
+      let kept : Kept alone-tables = record {
+        order = tt;
+        short = rw (body-alone, le-ltb maxNameBytes (length name) short);
+        within = λ r m. ⊎-elim (λ (e : r ≡ length name). rw e (omega arith)) (λ (k : List·Memᴰ r []). absurd (List·Memᴰ·not-nil k)) (List·Memᴰ·cases-cons m);
+        total = rw body-alone (omega arith);
         count = omega arith;
-        bytes = omega arith;
-        subgraph = omega arith;
-        translation = omega arith;
-        used = ap names meaning-alone ∙ alone name ∙ ap (λ (n : Bytes). n ∷ []) (sym body-alone);
+        room = omega arith;
+        few = omega arith;
+        small = omega arith;
+        subgraph = record { order = tt; under = tt; within = omega arith };
+        translation = record { order = tt; under = tt; within = omega arith };
+      } in
+      record {
+        complete = record { kept = kept; own-within = omega arith; used = ap names meaning-alone ∙ alone name ∙ ap (λ (n : Bytes). n ∷ []) (sym body-alone) };
+        sizes = record { names = omega arith; bytes = omega arith; subgraph = omega arith; translation = omega arith };
       }

@@ -14,11 +14,11 @@ use Rattle.model.specs.Layout.{shown, decode}
 use Rattle.model.specs.Opening.{isSome}
 use Rattle.sorted.specs.declared.putting.Sizes.{Sizes}
 use Rattle.sorted.specs.Tables.{Tables, Kept, PairRoom, PairPut}
-use Rattle.tables.specs.Judging.{owned}
+use Rattle.tables.specs.Judging.{owned, Limited}
 use Rattle.tables.specs.Loading.{sizesOf, TableRoom}
 use Rattle.tables.specs.Merging.{MergeRoom}
 use Rattle.edit.specs.Merging.{mergedIf, sizesIf, PairsMerged}
-use Rattle.edit.specs.Changing.{pairedIf, ChangeRoom, Limited, FitSmall, PairedIf}
+use Rattle.edit.specs.Changing.{pairedIf, ChangeRoom, FitSmall, PairedIf}
 use Rattle.tables.proofs.Records.{sizes-within}
 use Rattle.tables.proofs.Judge.{good-put}
 use Rattle.tables.proofs.Merge.{all-count, all-bytes}

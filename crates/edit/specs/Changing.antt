@@ -7,7 +7,7 @@ use Prim.Native.Nat.{ℕ, _+_, _*_, _≤_}
 use lib.ListN.{length}
 use Rattle.model.specs.Bytes.{Bytes}
 use Rattle.model.specs.declared.Kind.{Kind}
-use Rattle.model.specs.Record.{Pair, GraphName, withPair, maxNameBytes, maxNames, maxPairs, maxBodiesBytes}
+use Rattle.model.specs.Record.{Pair, GraphName, withPair, maxNameBytes}
 use Rattle.model.specs.Layout.{shown, decode}
 use Rattle.model.specs.Opening.{isSome}
 use Rattle.model.specs.Outcome.{Outcome, keptOr}
@@ -41,13 +41,6 @@ ChangeRoom s t = TableRoom (record {
   subgraph = s .subgraph + t .subgraph + 1;
   translation = s .translation + t .translation + 1;
 })
-
--- the sizes of a record are within the limits of docs/FORMAT.md
-pub record Limited (s : Sizes) : Type 0 where
-  pub names : s .names ≤ maxNames
-  pub bytes : s .bytes ≤ maxBodiesBytes
-  pub subgraph : s .subgraph ≤ maxPairs
-  pub translation : s .translation ≤ maxPairs
 
 -- two graph names of these sizes fit the small tables together
 pub record FitSmall (s t : Sizes) : Type 0 where

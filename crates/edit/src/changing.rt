@@ -20,8 +20,8 @@ ghost use Rattle.model.specs.Opening.{isSome};
 ghost use Rattle.sorted.specs.Tables.{tables, Kept, PairRoom};
 ghost use Rattle.tables.specs.Loading.{sizesOf};
 ghost use Rattle.edit.specs.Merging.{sizesIf};
-ghost use Rattle.tables.specs.Judging.{outcome};
-ghost use Rattle.edit.specs.Changing.{changeOf, Changeable, ChangeRoom, Limited, FitSmall, PairedIf};
+ghost use Rattle.tables.specs.Judging.{outcome, Limited};
+ghost use Rattle.edit.specs.Changing.{changeOf, Changeable, ChangeRoom, FitSmall, PairedIf};
 
 // Puts in a pair, if there is one.
 fn put_if(

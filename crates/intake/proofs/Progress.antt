@@ -14,7 +14,7 @@ use borrow.Author.Tests.{lt-ltb, le-ltb, ltb-false, eqb-true}
 use Rattle.model.specs.declared.Kind.{Kind}
 use Rattle.model.specs.declared.Kind.the-variants.{Subgraph, Translation}
 use Rattle.model.specs.Bytes.{Bytes, compareBytes, put}
-use Rattle.model.specs.Record.{Pair, GraphName, insert, names, anyLong, bodies, withName, withPair, judge, maxNameBytes, maxNames, maxPairs, maxBodiesBytes}
+use Rattle.model.specs.Record.{Pair, GraphName, insert, names, anyLong, bodies, withName, withPair, judge, maxNameBytes}
 use Rattle.model.specs.Statements.{Ascending}
 use Rattle.model.specs.Reading.{took, wrong, judged}
 use Rattle.text.proofs.Order.{bytes-order}
@@ -24,7 +24,7 @@ use Rattle.record.proofs.Sizes.{judge-sizes}
 use Rattle.sorted.specs.declared.putting.Sizes.{Sizes}
 use Rattle.sorted.specs.Tables.{Tables, tables, namesIn, tableNames, graphIn, PairRoom, PairPut}
 use Rattle.sorted.proofs.Search.{length-names}
-use Rattle.tables.specs.Judging.{owned, namesAnd, NamesKept, Good}
+use Rattle.tables.specs.Judging.{owned, namesAnd, NamesKept, Good, Limited}
 use Rattle.sorted.proofs.Pairs.{names-withPair}
 use Rattle.text.proofs.Total.{total, total-count, total-bodies, ascending-once, total-part}
 use Rattle.tables.proofs.Judge.{good-put, names-owned, any-insert, length-shown, judge-tables}
@@ -144,19 +144,20 @@ module _ (refs subs trans : List ℕ) (pool own : Bytes) (sizes : Sizes) (n : �
   -- ------------------------------------------------------------------ a pair
 
   -- what is in use is within the sizes of docs/FORMAT.md, also with the own name
-  pub in-use : (sizes .names ≤ maxNames) × (sizes .bytes ≤ maxBodiesBytes) × (sizes .subgraph ≤ maxPairs) × (sizes .translation ≤ maxPairs)
+  pub in-use : Limited sizes
   in-use =
       let good = h .held .good in
       let t = tables refs subs trans pool sizes in
       let s = judge-sizes before (h .sizes) in
       let e = now-names t good (ownOf own n) in
       let m = with-more (ownOf own n) (tableNames t) (good .kept .order) in
-      let c = length-names pool (sizes .names) refs (good .kept .count) in (
-        omega (arith, s .count, ap length e, m, c),
-        omega (arith, s .room, ap (λ (ns : List Bytes). length (bodies ns)) e, m, good .kept .total),
-        omega (arith, s .subgraphs, length-shown (tableNames t) (sizes .subgraph) subs (good .kept .subgraph .within)),
-        omega (arith, s .translations, length-shown (tableNames t) (sizes .translation) trans (good .kept .translation .within)),
-      )
+      let c = length-names pool (sizes .names) refs (good .kept .count) in
+      record {
+        names = omega (arith, s .count, ap length e, m, c);
+        bytes = omega (arith, s .room, ap (λ (ns : List Bytes). length (bodies ns)) e, m, good .kept .total);
+        subgraph = omega (arith, s .subgraphs, length-shown (tableNames t) (sizes .subgraph) subs (good .kept .subgraph .within));
+        translation = omega (arith, s .translations, length-shown (tableNames t) (sizes .translation) trans (good .kept .translation .within));
+      }
 
   -- so there is room for two names and a pair more
   pub pair-room : (from to : Bytes) → length from ≤ maxNameBytes → length to ≤ maxNameBytes → PairRoom (tables refs subs trans pool sizes) from to

@@ -1,6 +1,7 @@
 // Takes the lines of the list one by one: sets what a line sets, and makes the call of a line with an entry's name.
 use crate::entries::STRICT;
 use crate::entries::agrees;
+use test_list::HOLDERS;
 use test_list::count_result;
 use test_list::count_right;
 use test_list::count_wrong;
@@ -67,7 +68,7 @@ fn take(
         return;
     }
     let place = holder(upto(line, 0, b' '));
-    if place < 11 {
+    if place < HOLDERS {
         set_as(bytes, sizes, place, rest(line));
         return;
     }

@@ -177,22 +177,25 @@ module _ (t : Tables) (own : ℕ) (r : Complete t own) where
         length-shown (tableNames t) (t .sizes .translation) (t .trans) (r .kept .translation .within),
       )
 
-  pub complete-storable : fault ≡ 0 → Storable t own
-  complete-storable e =
-      let s = judge-sizes g (judge-complete ∙ e) in
+  pub judged-storable : judge g ≡ 0 → Storable t own
+  judged-storable e =
+      let s = judge-sizes g e in
       let n = ap length (r .used) ∙ count-names in
       let b = ap (λ (ns : List Bytes). length (bodies ns)) (r .used) in
       let ls = length-shown (tableNames t) (t .sizes .subgraph) (t .subs) (r .kept .subgraph .within) in
       let lt = length-shown (tableNames t) (t .sizes .translation) (t .trans) (r .kept .translation .within) in
       record {
-        kept = r .kept;
-        own-within = r .own-within;
-        count = omega (arith, s .count);
-        bytes = omega (arith, s .room, r .kept .total);
-        subgraph = omega (arith, s .subgraphs);
-        translation = omega (arith, s .translations);
-        used = r .used;
+        complete = r;
+        sizes = record {
+          names = omega (arith, s .count);
+          bytes = omega (arith, s .room, r .kept .total);
+          subgraph = omega (arith, s .subgraphs);
+          translation = omega (arith, s .translations);
+        };
       }
+
+  pub complete-storable : fault ≡ 0 → Storable t own
+  complete-storable e = judged-storable (judge-complete ∙ e)
 
   pub kept-stored : (b : Bytes) → fault ≡ 0 → keptOr b g ≡ outcome 0 (encode g)
   kept-stored b e = rw (eq-eqb (judge g) 0 (judge-complete ∙ e))

@@ -35,21 +35,21 @@ module _ (t : Tables) (own : ℕ) (s : Storable t own) where
   n = t .sizes .names
 
   count-names : length (tableNames t) ≡ n
-  count-names = length-names (t .pool) n (t .refs) (s .kept .count)
+  count-names = length-names (t .pool) n (t .refs) (s .complete .kept .count)
 
   length-pairs : (k : ℕ) (xs : List ℕ) → k ≤ length xs → length (pairsIn k xs) ≡ k
   length-pairs k xs h = length-map (take k xs) placesOf ∙ length-take-le k xs h
 
   count-subgraph : length (c .subgraph) ≡ t .sizes .subgraph
-  count-subgraph = length-pairs (t .sizes .subgraph) (t .subs) (s .kept .subgraph .within)
+  count-subgraph = length-pairs (t .sizes .subgraph) (t .subs) (s .complete .kept .subgraph .within)
 
   count-translation : length (c .translation) ≡ t .sizes .translation
-  count-translation = length-pairs (t .sizes .translation) (t .trans) (s .kept .translation .within)
+  count-translation = length-pairs (t .sizes .translation) (t .trans) (s .complete .kept .translation .within)
 
   coded-table : coded (meaning c) ≡ c
   coded-table =
       let e = count-names in
-      coded-again c (s .used) (s .kept .order) (omega (arith, s .own-within)) (rw e (s .kept .subgraph .under)) (rw e (s .kept .translation .under))
+      coded-again c (s .complete .used) (s .complete .kept .order) (omega (arith, s .complete .own-within)) (rw e (s .complete .kept .subgraph .under)) (rw e (s .complete .kept .translation .under))
 
   abbrev head : Bytes
   head = countsOf n own (t .sizes .subgraph) (t .sizes .translation)
@@ -97,7 +97,7 @@ module _ (t : Tables) (own : ℕ) (s : Storable t own) where
       → l₅ ≡ put l₄ p₄ (bodies (tableNames t)) → p₅ ≡ p₄ + length (bodies (tableNames t))
       → l₆ ≡ put l₅ p₅ (replicate (recordLength - p₅) 0) → l₆ ≡ encode (meaning c)
   stored b l₁ l₂ l₃ l₄ l₅ l₆ p₁ p₂ p₃ p₄ p₅ long a₁ q₁ a₂ q₂ a₃ q₃ a₄ q₄ a₅ q₅ a₆ =
-      let total = s .kept .total in
+      let total = s .complete .kept .total in
       let h = length-counts n own (t .sizes .subgraph) (t .sizes .translation) in
       let e = length-named in
       let f = length-subgraph in

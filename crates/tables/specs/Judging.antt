@@ -60,12 +60,14 @@ pub record Complete (t : Tables) (own : ℕ) : Type 0 where
   pub own-within : own ≤ t .sizes .names
   pub used : names (meaning (readOut t own)) ≡ tableNames t
 
+-- these sizes are allowed
+pub record Limited (s : Sizes) : Type 0 where
+  pub names : s .names ≤ maxNames
+  pub bytes : s .bytes ≤ maxBodiesBytes
+  pub subgraph : s .subgraph ≤ maxPairs
+  pub translation : s .translation ≤ maxPairs
+
 -- the tables, with the own name of this number, are those of a graph name within the sizes
 pub record Storable (t : Tables) (own : ℕ) : Type 0 where
-  pub kept : Kept t
-  pub own-within : own ≤ t .sizes .names
-  pub count : t .sizes .names ≤ maxNames
-  pub bytes : t .sizes .bytes ≤ maxBodiesBytes
-  pub subgraph : t .sizes .subgraph ≤ maxPairs
-  pub translation : t .sizes .translation ≤ maxPairs
-  pub used : names (meaning (readOut t own)) ≡ tableNames t
+  pub complete : Complete t own
+  pub sizes : Limited (t .sizes)

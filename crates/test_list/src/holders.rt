@@ -1,10 +1,21 @@
-// The byte strings that the list sets by name and that the calls take: each has 47,616 bytes of one buffer, and its length stands apart.
+// The byte strings that the list sets by name and that the calls take. They stand one behind the other in a buffer, with the same room for
+// each, and their lengths stand apart.
 use crate::bytes::read_bytes;
 use crate::lines::first;
 use crate::lines::tail;
 ghost use mathlib.Core.Path.{_≡_};
+ghost use Prim.Native.Nat.{_*_};
 ghost use lib.ListN.{length};
 ghost use Rattle.io.specs.Counts.{Counts};
+
+// How many there are.
+pub const HOLDERS: usize = 11;
+
+// The room for each.
+const HOLDER_BYTES: usize = 47616;
+
+// The room for all.
+const ALL_BYTES: usize = HOLDERS * HOLDER_BYTES;
 
 // The places of the names in `names`: what a call reads, what its outputs hold before it, and what they are to hold after it.
 pub const RECORD: usize = 0;
@@ -29,7 +40,7 @@ pub const WANT_TWO: usize = 9;
 
 pub const WANT_THREE: usize = 10;
 
-// The place of a name, 11 if it is none of them.
+// The place of a name, or `HOLDERS` if it is none of them.
 pub fn holder(name: &[u8]) -> usize {
     crate::lines::place_of(
         b"record other one two three out out_two out_three want want_two want_three ",
@@ -38,51 +49,51 @@ pub fn holder(name: &[u8]) -> usize {
 }
 
 // Room for all of them.
-pub fn holder_buffer() -> [u8; 523776]
-    ensures { λ r. ⌜ 523776 ≡ length r ⌝ }
+pub fn holder_buffer() -> [u8; ALL_BYTES]
+    ensures { λ r. ⌜ 11 * 47616 ≡ length r ⌝ }
 {
-    [0; 523776]
+    [0; ALL_BYTES]
 }
 
 // Their lengths.
-pub fn holder_sizes() -> [usize; 11]
+pub fn holder_sizes() -> [usize; HOLDERS]
     ensures { λ r. ⌜ 11 ≡ length r ⌝ }
 {
-    [0; 11]
+    [0; HOLDERS]
 }
 
 // Sets the one at a place to the bytes that a text stands for.
 pub(crate) fn set(bytes: &mut [u8], sizes: &mut [usize], place: usize, s: &[u8]) {
-    if bytes.len() != 523776 {
+    if bytes.len() != ALL_BYTES {
         return;
     }
-    if sizes.len() != 11 {
+    if sizes.len() != HOLDERS {
         return;
     }
-    if 10 < place {
+    if HOLDERS <= place {
         return;
     }
-    let start = 47616 * place;
-    let end = start + 47616;
+    let start = HOLDER_BYTES * place;
+    let end = start + HOLDER_BYTES;
     sizes[place] = read_bytes(s, &mut bytes[start..end]);
 }
 
 // Sets the one at a place to the one at another.
 pub(crate) fn set_same(bytes: &mut [u8], sizes: &mut [usize], place: usize, from: usize) {
-    if bytes.len() != 523776 {
+    if bytes.len() != ALL_BYTES {
         return;
     }
-    if sizes.len() != 11 {
+    if sizes.len() != HOLDERS {
         return;
     }
-    if 10 < place {
+    if HOLDERS <= place {
         return;
     }
-    if 10 < from {
+    if HOLDERS <= from {
         return;
     }
-    for i in 0..47616 {
-        bytes[47616 * place + i] = bytes[47616 * from + i];
+    for i in 0..HOLDER_BYTES {
+        bytes[HOLDER_BYTES * place + i] = bytes[HOLDER_BYTES * from + i];
     }
     sizes[place] = sizes[from];
 }
@@ -97,7 +108,11 @@ fn size_at(sizes: &[usize], place: usize) -> usize {
 
 // The one at a place.
 pub fn held<'a>(bytes: &'a [u8], sizes: &[usize], place: usize) -> &'a [u8] {
-    text::part(bytes, 47616 * (place % 11), size_at(sizes, place))
+    text::part(
+        bytes,
+        HOLDER_BYTES * (place % HOLDERS),
+        size_at(sizes, place),
+    )
 }
 
 // Copies one to the front of an output, if it fits, and gives its length.

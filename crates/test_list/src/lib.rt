@@ -13,6 +13,7 @@ pub use counting::count_right;
 pub use counting::count_wrong;
 pub use counting::print_entries;
 pub use counting::print_results;
+pub use holders::HOLDERS;
 pub use holders::ONE;
 pub use holders::OTHER;
 pub use holders::OUT;

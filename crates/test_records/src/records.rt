@@ -44,52 +44,35 @@ fn name_at(record: &[u8], n: &[u8]) -> bool {
     are_four(n, result, present, start, length)
 }
 
-// Whether `graph_name_subgraph_at` answers so.
-fn subgraph_at(record: &[u8], n: &[u8]) -> bool {
+// Whether the entry for the pairs of a kind, `graph_name_subgraph_at` or `graph_name_translation_at`, answers so.
+fn pair_at(subgraph: bool, record: &[u8], n: &[u8]) -> bool {
     let mut present = UNWRITTEN;
     let mut from_start = UNWRITTEN;
     let mut from_length = UNWRITTEN;
     let mut to_start = UNWRITTEN;
     let mut to_length = UNWRITTEN;
     let place = number_at(n, 6);
-    let result = graph_name::graph_name_subgraph_at(
-        record,
-        place,
-        &mut present,
-        &mut from_start,
-        &mut from_length,
-        &mut to_start,
-        &mut to_length,
-    );
-    are_seven(
-        n,
-        result,
-        present,
-        from_start,
-        from_length,
-        to_start,
-        to_length,
-        place,
-    )
-}
-
-// Whether `graph_name_translation_at` answers so.
-fn translation_at(record: &[u8], n: &[u8]) -> bool {
-    let mut present = UNWRITTEN;
-    let mut from_start = UNWRITTEN;
-    let mut from_length = UNWRITTEN;
-    let mut to_start = UNWRITTEN;
-    let mut to_length = UNWRITTEN;
-    let place = number_at(n, 6);
-    let result = graph_name::graph_name_translation_at(
-        record,
-        place,
-        &mut present,
-        &mut from_start,
-        &mut from_length,
-        &mut to_start,
-        &mut to_length,
-    );
+    let result = if subgraph {
+        graph_name::graph_name_subgraph_at(
+            record,
+            place,
+            &mut present,
+            &mut from_start,
+            &mut from_length,
+            &mut to_start,
+            &mut to_length,
+        )
+    } else {
+        graph_name::graph_name_translation_at(
+            record,
+            place,
+            &mut present,
+            &mut from_start,
+            &mut from_length,
+            &mut to_start,
+            &mut to_length,
+        )
+    };
     are_seven(
         n,
         result,
@@ -121,8 +104,8 @@ pub fn record_agrees(entry: usize, bytes: &[u8], sizes: &[usize], n: &[u8]) -> b
         0 => counts(record, n),
         1 => name(record, n),
         2 => name_at(record, n),
-        3 => subgraph_at(record, n),
-        4 => translation_at(record, n),
+        3 => pair_at(true, record, n),
+        4 => pair_at(false, record, n),
         5 => is_same(record, held(bytes, sizes, OTHER), n),
         _ => check_strict(held(bytes, sizes, ONE), n),
     }

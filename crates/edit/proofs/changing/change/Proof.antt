@@ -3,7 +3,8 @@ use mathlib.Core.Path.{sym, subst}
 use Rattle.model.specs.Layout.{shown}
 use Rattle.sorted.specs.declared.putting.Sizes.{Sizes}
 use Rattle.tables.specs.Loading.{sizesOf}
-use Rattle.edit.specs.Changing.{Limited, FitSmall}
+use Rattle.tables.specs.Judging.{Limited}
+use Rattle.edit.specs.Changing.{FitSmall}
 use Rattle.edit.proofs.Changes.{limited, limited-if}
 use borrow.Author.Needs.{needs}
 use Rattle.edit.proofs.changing.change.Statement.{statement}

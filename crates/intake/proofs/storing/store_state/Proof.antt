@@ -29,7 +29,7 @@ store-requires : tie.Need-store-requires
 store-requires c κs =
     let s = start (c .before .before .before .before .before .before) in
     let a = s .args in
-    (stored-none (a .refs .now) (a .subs .now) (a .trans .now) (a .pool .now) (a .own .now) (a .state .sizes) (a .state .own) (s .pre .0), s .pre .1)
+    (stored-none (a .refs .now) (a .subs .now) (a .trans .now) (a .pool .now) (a .own .now) (a .state .sizes) (a .state .own) (s .pre .0) (c .before .before .before .before .before .if1 .taken), s .pre .1)
 
 same-length : tie.Need-same-length
 same-length c = search needs
@@ -68,7 +68,7 @@ put-name-requires c κs =
     (s .pre .0 .held .good .kept, name-room (a .refs .now) (a .subs .now) (a .trans .now) (a .pool .now) (a .own .now) (a .state .sizes) (a .state .own) (s .pre .0) (e .if1 .left) (c .part .result .now) (c .part .ensures))
 
 add-store : tie.Need-add-store
-add-store c = let w = own-stored (c .before .before .before .before .before .before .before .before .before .before .before .before) in omega (arith, w .own-within, w .count)
+add-store c = let w = own-stored (c .before .before .before .before .before .before .before .before .before .before .before .before) in omega (arith, w .complete .own-within, w .sizes)
 
 store-requires-2 : tie.Need-store-requires-2
 store-requires-2 c κs = let p = c .before .before .before .before .before .before .before .before .before .before .before .before .before in (own-stored p, named p .pre .1)

@@ -34,7 +34,7 @@ clear-requires c κs =
     let v = c .before .before .before .before .before .before .before .store-pairs2 in
     let b = c .before .before .before .store-bodies in
     let k = s .pre .0 in
-    omega (arith, k .kept .total, k .count, k .bytes, k .subgraph, k .translation, h .ensures .0, e .ensures .0, u .ensures .0, v .ensures .0, b .ensures .0, h .kept .0, e .kept .0, u .kept .0, v .kept .0, b .kept .0)
+    omega (arith, k .complete .kept .total, k .sizes, h .ensures .0, e .ensures .0, u .ensures .0, v .ensures .0, b .ensures .0, h .kept .0, e .kept .0, u .kept .0, v .kept .0, b .kept .0)
 
 same-length : tie.Need-same-length
 same-length c = search needs
