@@ -1,8 +1,7 @@
--- The lines and texts of a description, the bytes of a path read, and what a search finds.
+-- The lines and texts of a description, and what a search finds.
 pub mod Runs
 pub mod Parts
 pub mod Tests
 pub mod Bound
-pub mod Reading
 pub mod Finding
 pub mod Outcomes

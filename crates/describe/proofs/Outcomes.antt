@@ -18,10 +18,10 @@ use Rattle.model.specs.Describe.{StepFrom, stepsFrom, afterLastEmpty, orNoName,
 use Rattle.model.specs.Written.{within, withDescs, relationshipWritten}
 use Rattle.record.proofs.Laws.{decode-held, decode-shown}
 use Rattle.record.proofs.Opening.{refused-both, two-decoded}
-use Rattle.describe.specs.Steps.{startAt, PathIn}
+use Rattle.path_bytes.specs.Reading.{startAt, PathIn}
+use Rattle.path_bytes.proofs.ReadBack.{path-in, start-read, path-steps}
 use Rattle.describe.specs.Lines.{noPathText, OwnNameIn}
 use Rattle.describe.specs.Direction.{NoPath, HasPath, textWritten, pathText}
-use Rattle.describe.proofs.Reading.{path-in, start-read, path-steps}
 
 one-record : (b : Bytes) (g h : GraphName) → decode b ≡ some g → decode b ≡ some h → g ≡ h
 one-record b g h d e = let same : _≡_ {A = Option GraphName} (some g) (some h) = sym d ∙ e in cc

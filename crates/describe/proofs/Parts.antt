@@ -6,14 +6,14 @@ use Prim.Native.Nat.{ℕ, zero, suc, _+_}
 use Rattle.model.specs.Bytes.{Bytes}
 use Rattle.model.specs.Text.{text}
 use Rattle.model.specs.Describe.{nameIsFor, relationWords, stepLines, graphLines, describePath}
-use Rattle.describe.specs.Steps.{kindOf, stepsAt}
+use Rattle.path_bytes.specs.Reading.{kindNumbered, stepsAt}
 use Rattle.describe.proofs.Runs.{length-steps, relationships-anywhere}
 
 -- the words for a kind's number
-pub subgraph-words : (k : ℕ) → k ≡ 0 → relationWords (kindOf k) ≡ text " is a subgraph of graph "
-subgraph-words k e = ap (λ (n : ℕ). relationWords (kindOf n)) e
+pub subgraph-words : (k : ℕ) → k ≡ 0 → relationWords (kindNumbered k) ≡ text " is a subgraph of graph "
+subgraph-words k e = ap (λ (n : ℕ). relationWords (kindNumbered n)) e
 
-pub translation-words : (k : ℕ) → k ≢ 0 → relationWords (kindOf k) ≡ text " translates to graph "
+pub translation-words : (k : ℕ) → k ≢ 0 → relationWords (kindNumbered k) ≡ text " translates to graph "
 translation-words zero n = absurd (n refl)
 translation-words (suc k) n = refl
 

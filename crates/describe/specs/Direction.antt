@@ -12,9 +12,10 @@ use Rattle.model.specs.Opening.{Given, gives, faultOfBoth}
 use Rattle.model.specs.Path.{Step, fullPath, pathBytes}
 use Rattle.model.specs.Describe.{afterLastEmpty, describePath}
 use Rattle.model.specs.Written.{within, withDescs}
+use Rattle.path_bytes.specs.Layout.{roomForPath}
+use Rattle.path_bytes.specs.Reading.{startAt, pathSteps}
 use Rattle.describe.specs.declared.direction.Direction.{Direction}
 use Rattle.describe.specs.declared.direction.Direction.the-variants.{Refused, Forward, Backward, Neither}
-use Rattle.describe.specs.Steps.{roomForPath, startAt, pathSteps}
 
 -- two records, with no path from the first to the second
 pub record NoPath (b c : Bytes) : Type 0 where

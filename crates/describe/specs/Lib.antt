@@ -1,4 +1,4 @@
--- The steps of a path in its bytes, the lines of a description, and its direction.
+-- The steps that a description lists, its lines, and its direction.
 pub mod Steps
 pub mod Lines
 pub mod Direction

@@ -3,7 +3,7 @@ use path_bytes::Reply;
 use questions::translates_to;
 ghost use mathlib.Core.Path.{_≡_};
 ghost use lib.ListN.{length};
-ghost use Rattle.describe.specs.Steps.{roomForPath};
+ghost use Rattle.path_bytes.specs.Layout.{roomForPath};
 ghost use Rattle.describe.specs.Direction.{Finds};
 
 // The direction of a path: from the first graph to the second, from the second to the first, or neither; or the number of a refusal.

@@ -6,7 +6,7 @@ use text::append_decimal;
 ghost use Prim.Native.Nat.{_<_};
 ghost use Rattle.model.specs.Describe.{nameIsFor, relationWords, graphLine};
 ghost use Rattle.text.specs.Appending.{Appends};
-ghost use Rattle.describe.specs.Steps.{kindOf};
+ghost use Rattle.path_bytes.specs.Reading.{kindNumbered};
 ghost use Rattle.describe.specs.Lines.{relationshipLine, shownName, OwnNameIn};
 
 // Appends the line that says which desc graph n has.
@@ -22,7 +22,7 @@ pub(crate) fn append_description(out: &mut [u8], at: usize, n: usize, desc: &[u8
 
 // Appends the words for a step of this kind.
 fn append_relation(out: &mut [u8], at: usize, kind: usize) -> usize
-    ensures { λ r. ⌜ Appends (now (out .entry)) at (relationWords (kindOf kind)) r (now (out .exit)) ⌝ }
+    ensures { λ r. ⌜ Appends (now (out .entry)) at (relationWords (kindNumbered kind)) r (now (out .exit)) ⌝ }
 {
     if kind == 0 {
         return append(out, at, b" is a subgraph of graph ");
@@ -33,7 +33,7 @@ fn append_relation(out: &mut [u8], at: usize, kind: usize) -> usize
 // Appends the line of the step from graph i to the next.
 pub(crate) fn append_relationship(out: &mut [u8], at: usize, i: usize, kind: usize) -> usize
     requires { ⌜ i < 65535 ⌝ }
-    ensures { λ r. ⌜ Appends (now (out .entry)) at (relationshipLine i (kindOf kind)) r (now (out .exit)) ⌝ }
+    ensures { λ r. ⌜ Appends (now (out .entry)) at (relationshipLine i (kindNumbered kind)) r (now (out .exit)) ⌝ }
 {
     let p = append(out, at, b"Graph ");
     let q = append_decimal(out, p, i);

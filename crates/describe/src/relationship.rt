@@ -6,15 +6,18 @@ use crate::steps::after_last_empty;
 use crate::texts::append_no_path;
 use crate::texts::append_path;
 use export::Written;
+use path_bytes::FIRST_ENTRY;
+use path_bytes::bodies_at;
+use path_bytes::name_count;
+use path_bytes::name_length;
 use text::part;
-use text::read16;
 ghost use mathlib.Core.Path.{_≡_};
 ghost use mathlib.Core.Bool.{_&&_};
 ghost use lib.Dec.{leb};
 ghost use lib.ListN.{length};
 ghost use Rattle.model.specs.Written.{relationshipWritten};
 ghost use Rattle.export.specs.Answers.{Answers};
-ghost use Rattle.describe.specs.Steps.{PathIn};
+ghost use Rattle.path_bytes.specs.Reading.{PathIn};
 ghost use Rattle.describe.specs.Lines.{noPathText, OwnNameIn};
 ghost use Rattle.describe.specs.Direction.{Finds, textWritten, pathText};
 
@@ -33,12 +36,13 @@ fn describe_path(path: &[u8], from: &[u8], to: &[u8], out: &mut [u8]) -> Written
     if !short(from, to) {
         return Written::Refused(18);
     }
-    let n = read16(path, 0);
-    let steps = after_last_empty(path, 2, 2 + 4 * n, n - 1);
+    let n = name_count(path);
+    let bodies = bodies_at(n);
+    let steps = after_last_empty(path, FIRST_ENTRY, bodies, n - 1);
     let entry = steps.entry;
     let body = steps.body;
     let count = steps.count;
-    let start = part(path, 2 + 4 * n, read16(path, 2));
+    let start = part(path, bodies, name_length(path, FIRST_ENTRY));
     let mut none: [u8; 0] = [];
     if out.len() < append_path(&mut none, path, entry, body, count, start, from, to) {
         return Written::Refused(17);

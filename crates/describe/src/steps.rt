@@ -1,11 +1,14 @@
 // The steps of a path that the description lists, by where they stand in the path's bytes, and their lines.
 use crate::lines::append_graph;
 use crate::lines::append_relationship;
+use path_bytes::ENTRY_LENGTH;
+use path_bytes::name_length;
+use path_bytes::step_kind;
 use text::part;
-use text::read16;
 ghost use Rattle.model.specs.Describe.{stepLines, graphLines};
 ghost use Rattle.text.specs.Appending.{Appends};
-ghost use Rattle.describe.specs.Steps.{stepsAt, EntriesIn, StepsIn, Listed};
+ghost use Rattle.path_bytes.specs.Reading.{stepsAt, EntriesIn, StepsIn};
+ghost use Rattle.describe.specs.Steps.{Listed};
 
 // A run of steps: where the entry and the body of the name that the first one leaves stand, and how many there are.
 pub struct Steps {
@@ -26,9 +29,9 @@ pub(crate) fn after_last_empty(path: &[u8], entry: usize, body: usize, count: us
     let mut at = body;
     let mut left = count;
     while 0 < left {
-        let size = read16(path, e);
+        let size = name_length(path, e);
         let empty = part(path, at, size).len() == 0;
-        e += 4;
+        e += ENTRY_LENGTH;
         at += size;
         left -= 1;
         if empty {
@@ -60,9 +63,9 @@ pub(crate) fn append_relationships(
     let mut e = entry;
     let mut left = count;
     while 0 < left {
-        q = append_relationship(out, q, i, read16(path, e + 2));
+        q = append_relationship(out, q, i, step_kind(path, e));
         i += 1;
-        e += 4;
+        e += ENTRY_LENGTH;
         left -= 1;
     }
     q
@@ -87,10 +90,10 @@ pub(crate) fn append_graphs(
     let mut from = body;
     let mut left = count;
     while 0 < left {
-        let k = read16(path, e);
+        let k = name_length(path, e);
         q = append_graph(out, q, i, part(path, from, k));
         i += 1;
-        e += 4;
+        e += ENTRY_LENGTH;
         from += k;
         left -= 1;
     }

@@ -6,7 +6,7 @@ use crate::steps::append_relationships;
 use text::append;
 ghost use Rattle.model.specs.Describe.{describePath};
 ghost use Rattle.text.specs.Appending.{Appends};
-ghost use Rattle.describe.specs.Steps.{stepsAt, StepsIn};
+ghost use Rattle.path_bytes.specs.Reading.{stepsAt, StepsIn};
 ghost use Rattle.describe.specs.Lines.{noPathText, OwnNameIn};
 
 // Appends the text of a path that lists `count` steps and the last name.

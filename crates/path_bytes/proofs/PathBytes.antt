@@ -1,17 +1,23 @@
 -- The bytes of a path, step by step: one name more at the end; and the path to a place, by the place before it.
-use mathlib.Core.Path.{_≡_, refl, ap}
-use mathlib.Core.List.{List, [], _∷_, _++_, append-assoc}
-use Prim.Native.Nat.{ℕ, zero, suc, _+_, _*_, _≤_, _<_}
-use native.Mathlib.Decide.{ℕ-discrete}
+use mathlib.Core.Path.{_≡_, refl, ap, _∙_}
+use mathlib.Core.List.{List, [], _∷_, _++_, append-assoc, map-append}
+use Prim.Native.Nat.{ℕ, _+_, _*_, _/_, _%_, _≤_, _<_}
+use native.Mathlib.Decide.{decLt}
 use native.Mathlib.Omega.{arith}
-use lib.ListN.{length, getD, length-append}
+use lib.ListN.{length, length-append}
+use borrow.Author.Tests.{lt-ltb, le-ltb}
 use Rattle.model.specs.Bytes.{Bytes}
 use Rattle.model.specs.Numbers.{le16}
 use Rattle.model.specs.Path.{Step, kindNumber, pathEntries, pathBodies, pathBytes}
-use Rattle.paths.specs.Queue.{kindOf, Back}
-use Rattle.union.specs.Names.{Names, nameOf}
-use Rattle.path_bytes.specs.Written.{entriesWith, pathBack, startName, Readback}
-use Rattle.paths.proofs.Walk.{lastStep, walk-first, walk-step, length-step}
+use Rattle.search.specs.Steps.{maxNodes, maxMoves}
+use Rattle.search.specs.Queue.{nodeAt, prevAt, moveAt}
+use Rattle.search.specs.Promise.{pathTo, Back}
+use Rattle.search.specs.Spans.{spanLengths, nameBy}
+use Rattle.search.specs.Names.{kindOf, stepOf}
+use Rattle.search.proofs.Walk.{path-first}
+use Rattle.search.proofs.Reading.{back-step}
+use Rattle.path_bytes.specs.Layout.{entryLength, entryAt}
+use Rattle.path_bytes.specs.Written.{entriesWith, pathBack, startName, bodiesTo}
 
 -- ------------------------------------------------------------------ entries and bodies
 
@@ -21,7 +27,7 @@ unfolding entriesWith
 entries-snoc k a [] s = refl
 entries-snoc k a (t ∷ ss) s = rw (entries-snoc k (t .next) ss s) (simp append-assoc)
 
-pub length-entries : (k : ℕ) (a : Bytes) (ss : List Step) → length (entriesWith k a ss) ≡ 4 + 4 * length ss
+pub length-entries : (k : ℕ) (a : Bytes) (ss : List Step) → length (entriesWith k a ss) ≡ entryLength * (length ss + 1)
 unfolding entriesWith
 length-entries k a [] = refl
 length-entries k a (s ∷ ss) = omega (arith, length-entries k (s .next) ss)
@@ -36,81 +42,64 @@ unfolding pathBodies
 bodies-snoc a [] s = refl
 bodies-snoc a (t ∷ ss) s = rw (bodies-snoc (t .next) ss s) (simp append-assoc)
 
-pub length-path : (a : Bytes) (ss : List Step) → length (pathBytes a ss) ≡ 6 + 4 * length ss + length (pathBodies a ss)
+pub length-path : (a : Bytes) (ss : List Step) → length (pathBytes a ss) ≡ entryAt (length ss + 1) + length (pathBodies a ss)
 unfolding pathBytes
 length-path a ss = simp length-append (omega (arith, ap length (entries-path a ss), length-entries 2 a ss))
 
+-- the kind of a move, as a number
+pub number-kind : (m : ℕ) → m < maxMoves → kindNumber (kindOf m) ≡ m / maxNodes
+number-kind m l = go (decLt m maxNodes)
+  where
+    go : Dec (m < maxNodes) → kindNumber (kindOf m) ≡ m / maxNodes
+    go (yes s) = rw (lt-ltb m maxNodes s) (omega arith)
+    go (no s) = rw (le-ltb m maxNodes (omega arith)) (omega arith)
+
+-- the node that the last move leads to
+pub node-last : (q : List ℕ) (j : ℕ) → moveAt q j % maxNodes ≡ nodeAt q j
+node-last q j = omega arith
+
 -- ------------------------------------------------------------------ the path to a place
 
-pub number-kind : (k : ℕ) → k < 2 → kindNumber (kindOf k) ≡ k
-number-kind zero l = refl
-number-kind (suc zero) l = refl
-number-kind (suc (suc k)) l = absurd (omega arith)
+module _ (b c : Bytes) (spans q : List ℕ) where
+  pub no-steps : pathBack b c spans q 0 ≡ []
+  no-steps = rw (path-first q)
 
--- it can be read back from the place before, too
-pub back-parent : (n : ℕ) (nodes parents : List ℕ) (j : ℕ) → Back n nodes parents j → 0 < j → Back n nodes parents (getD parents j 0)
-back-parent n nodes parents j back z =
-    let p : getD parents j 0 < j = back .falls j z (omega arith) in
-    record {
-      nodes-long = omega (arith, back .nodes-long);
-      parents-long = omega (arith, back .parents-long);
-      inside = λ i l. back .inside i (omega arith);
-      falls = λ i l m. back .falls i l (omega arith);
-    }
+  pub bodies-first : bodiesTo b c spans q 0 ≡ length (startName b c spans q)
+  unfolding pathBodies
+  bodies-first = rw no-steps
 
-pub readback-parent : (ns : Names) (nodes parents : List ℕ) (j : ℕ) → Readback ns nodes parents j → 0 < j → Readback ns nodes parents (getD parents j 0)
-readback-parent ns nodes parents j r z = record {
-  readable = r .readable;
-  back = back-parent _ nodes parents j (r .back) z;
-  small = omega (arith, r .small, r .back .falls j z (omega arith));
-}
+  module _ (place : ℕ) (back : Back q place) (j : ℕ) (z : 0 < j) (l : j ≤ place) where
+    pub path-last : pathBack b c spans q j ≡ pathBack b c spans q (prevAt q j) ++ (stepOf (nameBy b c spans) (moveAt q j) ∷ [])
+    path-last = rw (back-step q place back j z l) (map-append (stepOf (nameBy b c spans)) (pathTo q (prevAt q j)) (moveAt q j ∷ []))
 
-module _ (ns : Names) (nodes parents kinds : List ℕ) (j : ℕ) (back : Readback ns nodes parents j) where
-  pub path-last : 0 < j → pathBack ns nodes parents kinds j ≡ pathBack ns nodes parents kinds (getD parents j 0) ++ (lastStep (nameOf ns) nodes kinds j ∷ [])
-  path-last z = walk-step (nameOf ns) nodes parents kinds (j + 1) (λ i l m. back .back .falls i l (omega arith)) j z (omega arith)
+    pub bodies-last : pathBodies (startName b c spans q) (pathBack b c spans q j)
+        ≡ pathBodies (startName b c spans q) (pathBack b c spans q (prevAt q j)) ++ nameBy b c spans (nodeAt q j)
+    bodies-last = rw path-last (bodies-snoc (startName b c spans q) (pathBack b c spans q (prevAt q j)) (stepOf (nameBy b c spans) (moveAt q j)) ∙ rw (node-last q j))
 
-  pub path-first : j ≡ 0 → pathBack ns nodes parents kinds j ≡ []
-  path-first z = rw (z, walk-first (nameOf ns) nodes parents kinds 0)
-
-  -- no steps lead to the first place alone
-  pub no-steps : length (pathBack ns nodes parents kinds j) ≡ 0 → j ≡ 0
-  no-steps e = go (ℕ-discrete j 0)
-    where
-      go : Dec (j ≡ 0) → j ≡ 0
-      go (yes z) = z
-      go (no z) = absurd (omega (arith, length-step (nameOf ns) nodes parents kinds j (back .back .falls) (omega (arith, z))))
+    pub bodies-step : bodiesTo b c spans q j ≡ bodiesTo b c spans q (prevAt q j) + length (nameBy b c spans (nodeAt q j))
+    bodies-step = rw bodies-last (simp length-append)
 
 -- ------------------------------------------------------------------ how long the names are together
 
-abbrev pub bodiesTo : Names → List ℕ → List ℕ → List ℕ → ℕ → ℕ
-bodiesTo ns nodes parents kinds j = length (pathBodies (startName ns nodes) (pathBack ns nodes parents kinds j))
+-- after so many bytes of names, the path to place j is left
+pub record Adding (b c : Bytes) (spans q : List ℕ) (place j total : ℕ) : Type 0 where
+  pub low : j ≤ place
+  pub bound : total + spanLengths * j ≤ spanLengths * place
+  pub left : total + bodiesTo b c spans q j ≡ bodiesTo b c spans q place
 
-pub bodies-first : (ns : Names) (nodes parents kinds : List ℕ) → bodiesTo ns nodes parents kinds 0 ≡ length (startName ns nodes)
-unfolding pathBodies
-bodies-first ns nodes parents kinds = rw (walk-first (nameOf ns) nodes parents kinds 0)
+module _ (b c : Bytes) (spans q : List ℕ) (place : ℕ) (back : Back q place) where
+  pub adding-start : Adding b c spans q place place 0
+  adding-start = record { low = omega arith; bound = omega arith; left = omega arith }
 
-pub bodies-step : (ns : Names) (nodes parents kinds : List ℕ) (j : ℕ) → Readback ns nodes parents j → 0 < j
-    → bodiesTo ns nodes parents kinds j ≡ bodiesTo ns nodes parents kinds (getD parents j 0) + length (nameOf ns (getD nodes j 0))
-bodies-step ns nodes parents kinds j back z =
-    rw (path-last ns nodes parents kinds j back z, bodies-snoc (startName ns nodes) (pathBack ns nodes parents kinds (getD parents j 0)) (lastStep (nameOf ns) nodes kinds j))
-    (simp length-append)
+  module _ (j total : ℕ) (a : Adding b c spans q place j total) (name : Bytes) where
+    pub adding-step : name ≡ nameBy b c spans (nodeAt q j) → length name < spanLengths → 0 < j → Adding b c spans q place (prevAt q j) (total + length name)
+    adding-step is s z =
+        let f = back .falls j z (a .low) in
+        record {
+          low = omega (arith, a .low);
+          bound = omega (arith, a .bound);
+          left = omega (arith, a .left, ap length is, bodies-step b c spans q place back j z (a .low));
+        }
 
--- after so many bytes of names, the path to place `at` is left
-pub record Adding (ns : Names) (nodes parents : List ℕ) (j at total : ℕ) : Type 0 where
-  pub from : Readback ns nodes parents at
-  pub bound : total + 65536 * at ≤ 65536 * j
-  pub left : (kinds : List ℕ) → total + bodiesTo ns nodes parents kinds at ≡ bodiesTo ns nodes parents kinds j
-
-pub adding-start : (ns : Names) (nodes parents : List ℕ) (j : ℕ) → Readback ns nodes parents j → Adding ns nodes parents j j 0
-adding-start ns nodes parents j back = record { from = back; bound = omega arith; left = λ kinds. omega arith }
-
-module _ (ns : Names) (nodes parents : List ℕ) (j at total size : ℕ) (a : Adding ns nodes parents j at total) where
-  pub adding-step : 0 < at → size ≡ length (nameOf ns (getD nodes at 0)) → size < 65536 → Adding ns nodes parents j (getD parents at 0) (total + size)
-  adding-step z e l = record {
-    from = readback-parent ns nodes parents at (a .from) z;
-    bound = omega (arith, a .bound, a .from .back .falls at z (omega arith));
-    left = λ kinds. omega (arith, a .left kinds, bodies-step ns nodes parents kinds at (a .from) z);
-  }
-
-  pub adding-end : at ≡ 0 → size ≡ length (startName ns nodes) → (kinds : List ℕ) → total + size ≡ bodiesTo ns nodes parents kinds j
-  adding-end z e kinds = omega (arith, a .left kinds, ap (bodiesTo ns nodes parents kinds) z, bodies-first ns nodes parents kinds)
+    pub adding-end : name ≡ startName b c spans q → j ≡ 0 → total + length name ≡ bodiesTo b c spans q place
+    adding-end is z = omega (arith, a .left, ap length is, ap (bodiesTo b c spans q) z, bodies-first b c spans q)

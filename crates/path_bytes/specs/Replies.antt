@@ -1,14 +1,19 @@
 -- What a path question gives, beside the definitions of `model`: the case of its reply, and what the output then holds.
 use mathlib.Core.Path.{_≡_}
+use mathlib.Core.List.{List}
 use Prim.Native.Nat.{ℕ, _<_}
 use lib.ListN.{length}
 use Rattle.model.specs.Bytes.{Bytes}
 use Rattle.model.specs.Path.{Relations, bestPath}
 use Rattle.model.specs.Outcome.{Answer, refusal, notFound, found, answered, sized, outputAfter}
+use Rattle.model.specs.Record.{comparePairs}
+use Rattle.model.specs.Statements.{Ascending}
+use Rattle.search.specs.Promise.{Unindexed}
+use Rattle.search.specs.Spans.{nameBy}
+use Rattle.search.specs.Names.{StepTable}
+use Rattle.search.specs.Related.{related}
 use Rattle.path_bytes.specs.declared.Reply.{Reply}
 use Rattle.path_bytes.specs.declared.Reply.the-variants.{Refused, No, Yes}
-use Rattle.paths.specs.Tables.{Made, Graph, Holds}
-use Rattle.union.specs.Names.{Names, nameOf, Readable}
 
 abbrev pub replyOf : Answer → Reply
 replyOf (refusal n) = Refused n
@@ -19,15 +24,20 @@ replyOf (found bytes) = Yes
 abbrev pub Replies : Answer → Bytes → Reply → Bytes → Type 0
 Replies a out r o = (r ≡ replyOf a) × (o ≡ outputAfter a out)
 
--- tables of n nodes for a question from node a to node b
-pub record Askable (ns : Names) (G : Graph) (n a b : ℕ) : Type 0 where
-  pub readable : Readable ns n
-  pub subgraphs : Made (G .subgraphs) n
-  pub translations : Made (G .translations) n
-  pub from : a < n
-  pub to : b < n
+-- tables for a question between two nodes, each with a span
+pub record Askable (spans steps starts : List ℕ) (from target : ℕ) (q places : List ℕ) : Type 0 where
+  pub tables : Unindexed steps starts from q places
+  pub asked : target < length places
+  pub named : length spans ≡ length places
 
--- the right reply, whatever relations the tables hold
-abbrev pub RepliesRight : Names → Graph → ℕ → ℕ → ℕ → Bytes → Reply → Bytes → Type 0
-RepliesRight ns G n a b out r o =
-    (rs : Relations) → Holds G n (nameOf ns) rs → Replies (sized (length out) (answered (nameOf ns a) (bestPath rs (nameOf ns a) (nameOf ns b)))) out r o
+-- the table of steps between n nodes stands for the relations of these lists, which are ascending
+pub record Represents (steps : List ℕ) (n : ℕ) (name : ℕ → Bytes) (rs : Relations) : Type 0 where
+  pub table : StepTable steps n name (related rs)
+  pub subgraphs : Ascending comparePairs (rs .subgraphs)
+  pub translations : Ascending comparePairs (rs .translations)
+
+-- the right reply to the question from node `from` to node `target`, whatever relations the table of steps stands for
+abbrev pub RepliesRight : Bytes → Bytes → List ℕ → List ℕ → ℕ → ℕ → ℕ → Bytes → Reply → Bytes → Type 0
+RepliesRight b c spans steps n from target out r o =
+    (rs : Relations) → Represents steps n (nameBy b c spans) rs
+    → Replies (sized (length out) (answered (nameBy b c spans from) (bestPath rs (nameBy b c spans from) (nameBy b c spans target)))) out r o

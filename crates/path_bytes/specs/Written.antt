@@ -1,52 +1,56 @@
--- The bytes of a path, read back from the places of a search's queue.
+-- The bytes of a path, read back from the places of a search's queue; the names of the nodes are parts of b and c, by their spans.
 use mathlib.Core.Path.{_≡_}
 use mathlib.Core.Bool.{Bool}
 use mathlib.Core.List.{List, [], _∷_, _++_}
-use Prim.Native.Nat.{ℕ, _+_, _*_, _≤_, _<_}
-use lib.ListN.{length, getD}
+use Prim.Native.Nat.{ℕ, _+_, _≤_, _<_}
+use lib.ListN.{length}
 use lib.Dec.{leb}
 use Rattle.model.specs.Bytes.{Bytes, put}
 use Rattle.model.specs.Numbers.{le16}
 use Rattle.model.specs.Path.{Step, kindNumber, pathBodies, pathBytes}
 use Rattle.model.specs.Outcome.{found, sized, outputAfter}
-use Rattle.paths.specs.Queue.{walk, Back, Kinds}
-use Rattle.union.specs.Names.{Names, nameOf, Readable}
+use Rattle.search.specs.Steps.{maxNodes}
+use Rattle.search.specs.Queue.{nodeAt}
+use Rattle.search.specs.Promise.{pathTo, Back}
+use Rattle.search.specs.Spans.{nameBy}
+use Rattle.search.specs.Names.{stepsOf}
+use Rattle.path_bytes.specs.Layout.{firstEntry, entryAt}
 
 -- the entries of a path's names, with this number in the last one for its kind
 unfoldable pub entriesWith : ℕ → Bytes → List Step → Bytes
 entriesWith k a [] = le16 (length a) ++ le16 k
 entriesWith k a (s ∷ ss) = le16 (length a) ++ le16 (kindNumber (s .kind)) ++ entriesWith k (s .next) ss
 
--- the path to place j, and the name that it starts from
-abbrev pub pathBack : Names → List ℕ → List ℕ → List ℕ → ℕ → List Step
-pathBack ns nodes parents kinds j = walk (nameOf ns) nodes parents kinds j j
+-- the path to a place, the name that it starts from, and how long its names are together
+abbrev pub pathBack : Bytes → Bytes → List ℕ → List ℕ → ℕ → List Step
+pathBack b c spans q place = stepsOf (nameBy b c spans) (pathTo q place)
 
-abbrev pub startName : Names → List ℕ → Bytes
-startName ns nodes = nameOf ns (getD nodes 0 0)
+abbrev pub startName : Bytes → Bytes → List ℕ → List ℕ → Bytes
+startName b c spans q = nameBy b c spans (nodeAt q 0)
 
--- the path to place j can be read back
-pub record Readback (ns : Names) (nodes parents : List ℕ) (j : ℕ) : Type 0 where
-  pub readable : Readable ns (length (ns .firsts))
-  pub back : Back (length (ns .firsts)) nodes parents j
-  pub small : j < 65536
+abbrev pub bodiesTo : Bytes → Bytes → List ℕ → List ℕ → ℕ → ℕ
+bodiesTo b c spans q place = length (pathBodies (startName b c spans q) (pathBack b c spans q place))
+
+-- the path to a place can be read back, and each node on it has a span
+pub record Readback (spans q : List ℕ) (place : ℕ) : Type 0 where
+  pub back : Back q place
+  pub nodes : (j : ℕ) → j ≤ place → nodeAt q j < length spans
+  pub small : place < maxNodes
 
 -- it has so many steps, and there is room for the bodies from byte `at` on, behind the entries
-pub record Writable (ns : Names) (nodes parents kinds : List ℕ) (j step : ℕ) (out : Bytes) (at : ℕ) : Type 0 where
-  pub from : Readback ns nodes parents j
-  pub kind-steps : Kinds kinds j
-  pub steps : step ≡ length (pathBack ns nodes parents kinds j)
-  pub few : step < 65536
-  pub entries : 6 + 4 * step ≤ at
-  pub bodies : at + length (pathBodies (startName ns nodes) (pathBack ns nodes parents kinds j)) ≤ length out
+pub record Writable (b c : Bytes) (spans q : List ℕ) (place step : ℕ) (out : Bytes) (at : ℕ) : Type 0 where
+  pub from : Readback spans q place
+  pub steps : step ≡ length (pathTo q place)
+  pub entries : entryAt (step + 1) ≤ at
+  pub bodies : at + bodiesTo b c spans q place ≤ length out
 
--- the names of the path are written: the entries from byte 2 on, the last with `kind`, and the bodies from byte `at` up to r
-abbrev pub NamesWritten : Names → List ℕ → List ℕ → List ℕ → ℕ → Bytes → ℕ → ℕ → ℕ → Bytes → Type 0
-NamesWritten ns nodes parents kinds j out at kind r o =
-    (r ≡ at + length (pathBodies (startName ns nodes) (pathBack ns nodes parents kinds j)))
-    × (o ≡ put (put out 2 (entriesWith kind (startName ns nodes) (pathBack ns nodes parents kinds j))) at (pathBodies (startName ns nodes) (pathBack ns nodes parents kinds j)))
+-- the names of the path are written: the entries, the last with `kind`, and the bodies from byte `at` up to r
+pub record NamesWritten (b c : Bytes) (spans q : List ℕ) (place : ℕ) (out : Bytes) (at kind r : ℕ) (o : Bytes) : Type 0 where
+  pub end : r ≡ at + bodiesTo b c spans q place
+  pub is : o
+      ≡ put (put out firstEntry (entriesWith kind (startName b c spans q) (pathBack b c spans q place))) at (pathBodies (startName b c spans q) (pathBack b c spans q place))
 
 -- whether there is room for the bytes of the path, and what the output then holds
-abbrev pub PathWritten : Names → List ℕ → List ℕ → List ℕ → ℕ → Bytes → Bool → Bytes → Type 0
-PathWritten ns nodes parents kinds j out r o =
-    (r ≡ leb (length (pathBytes (startName ns nodes) (pathBack ns nodes parents kinds j))) (length out))
-    × (o ≡ outputAfter (sized (length out) (found (pathBytes (startName ns nodes) (pathBack ns nodes parents kinds j)))) out)
+pub record PathWritten (b c : Bytes) (spans q : List ℕ) (place : ℕ) (out : Bytes) (r : Bool) (o : Bytes) : Type 0 where
+  pub fits : r ≡ leb (length (pathBytes (startName b c spans q) (pathBack b c spans q place))) (length out)
+  pub is : o ≡ outputAfter (sized (length out) (found (pathBytes (startName b c spans q) (pathBack b c spans q place)))) out

@@ -11,13 +11,12 @@ use Rattle.model.specs.Layout.{shown, ownNumber, nameAt, ownAt, decode}
 use Rattle.model.specs.Path.{between, bestPath, subgraphPath, fullPath}
 use Rattle.model.specs.Outcome.{refusal, notFound, answered, nameOr, sized, askSubgraph, askFull}
 use Rattle.model.specs.Opening.{faultOfBoth}
-use Rattle.record.proofs.Laws.{decode-held}
 use Rattle.record.proofs.Opening.{two-refused, two-opened, two-decoded}
 use Rattle.record.proofs.Access.{record-own}
 use Rattle.path_bytes.specs.declared.Reply.{Reply}
 use Rattle.path_bytes.specs.Replies.{Replies}
-use Rattle.search.specs.Questions.{relationsOf, Owned, RepliesOwn}
-use Rattle.questions.specs.Asked.{askOf}
+use Rattle.union.specs.Steps.{Records}
+use Rattle.questions.specs.Asked.{askOf, relationsOf, Owned, RepliesOwn}
 
 module _ (b c : Bytes) (room : ℕ) where
   -- a fault refuses the question
@@ -27,13 +26,7 @@ module _ (b c : Bytes) (room : ℕ) where
   ask-fault false w e f = rw (two-refused b c (λ z. f (e ∙ z)), e)
 
 -- no fault: both are records
-pub record Faultless (b c : Bytes) : Type 0 where
-  pub g : GraphName
-  pub h : GraphName
-  pub first : decode b ≡ some g
-  pub second : decode c ≡ some h
-
-pub faultless : (b c : Bytes) → faultOfBoth b c ≡ 0 → Faultless b c
+pub faultless : (b c : Bytes) → faultOfBoth b c ≡ 0 → Records b c
 faultless b c z =
     let r = two-opened b c z in
     record { g = shown b; h = shown c; first = r .0 .decoded; second = r .1 .decoded }
@@ -69,20 +62,9 @@ module _ (b c : Bytes) (room : ℕ) (g h : GraphName) (d : decode b ≡ some g) 
       ask-is full ∙ rw (m, n)
 
 -- with the own places as the code has read them
-module _ (b c : Bytes) (f : Faultless b c) (own other : ℕ) (eo : own ≡ ownNumber b) (et : other ≡ ownNumber c) (no : own ≡ 0 → ⊥) (nt : other ≡ 0 → ⊥) where
+module _ (b c : Bytes) (f : Records b c) (own other : ℕ) (eo : own ≡ ownNumber b) (et : other ≡ ownNumber c) (no : own ≡ 0 → ⊥) (nt : other ≡ 0 → ⊥) where
   pub owned-read : Owned b c
-  owned-read = record {
-    own = omega (arith, no);
-    other = omega (arith, nt);
-    named = record {
-      g = f .g;
-      h = f .h;
-      first = f .first;
-      second = f .second;
-      from = omega (arith, decode-held b (f .g) (f .first) .own, no);
-      to = omega (arith, decode-held c (f .h) (f .second) .own, nt);
-    };
-  }
+  owned-read = record { records = f; own = omega (arith, no); other = omega (arith, nt) }
 
   pub ask-read : (full : Bool) (out o : Bytes) (r : Reply) → RepliesOwn full b c out r o → Replies (askOf full b c (length out)) out r o
   ask-read full out o r right =

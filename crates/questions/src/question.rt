@@ -1,111 +1,108 @@
-// The path questions on any two buffers: the tests, and tables of a fitting size lent to the search.
+// The path questions on any two buffers: the tests, and tables of a fitting size.
 use crate::tables::fits;
-use crate::tables::large_keys;
-use crate::tables::large_kinds;
-use crate::tables::large_names;
-use crate::tables::large_targets;
-use crate::tables::small_keys;
-use crate::tables::small_kinds;
-use crate::tables::small_names;
-use crate::tables::small_targets;
+use crate::tables::large_numbers;
+use crate::tables::large_pairs;
+use crate::tables::large_spans;
+use crate::tables::small_numbers;
+use crate::tables::small_pairs;
+use crate::tables::small_spans;
 use path_bytes::Reply;
+use path_bytes::find_path;
 use record::fault_of_both;
+use record::name_count;
 use record::own_place;
-use search::ask_named;
-ghost use Prim.Native.Nat.{_*_};
+use union::unite;
+ghost use Prim.Native.Nat.{_≤_};
 ghost use lib.ListN.{length};
-ghost use Rattle.model.specs.Record.{maxNames, maxPairs};
 ghost use Rattle.model.specs.Outcome.{askSubgraph, askFull};
 ghost use Rattle.path_bytes.specs.Replies.{Replies};
-ghost use Rattle.search.specs.Questions.{Owned, RepliesOwn};
-ghost use Rattle.search.specs.Room.{Within};
-ghost use Rattle.questions.specs.Asked.{askOf};
+ghost use Rattle.union.specs.Steps.{pairsOfBoth};
+ghost use Rattle.union.specs.United.{namesOfBoth};
+ghost use Rattle.questions.specs.Asked.{askOf, Owned, RepliesOwn};
+ghost use Rattle.questions.specs.Room.{smallNames, smallPairs, Roomy};
+
+// The path between the own names of two records, over the pairs of both, in tables that are lent. Both records become nodes, whose names
+// are `spans`, and `steps`; `numbers` has by place in each record the node of the name there. The search has where the steps of each node
+// begin in `starts`, at which place each was found in `places`, and its queue in `rows`, which before is for the rows of each record.
+fn ask_in<'a>(
+    b: &'a [u8],
+    c: &'a [u8],
+    full: bool,
+    rows: &mut [u32],
+    spans: &mut [u32],
+    numbers: &mut [u16],
+    steps: &mut [u32],
+    starts: &mut [u16],
+    places: &mut [u16],
+    out: &mut [u8],
+) -> Reply
+    requires { ⌜ Owned (now b) (now c) × Roomy (now b) (now c) (now rows) (now spans) (now numbers) (now steps) (now starts) (now places) ⌝ }
+    ensures { λ r. ⌜ RepliesOwn full (now (b .entry)) (now (c .entry)) (now (out .entry)) r (now (out .exit)) ⌝ }
+{
+    let u = unite(b, c, full, rows, spans, numbers, steps);
+    let nodes = u.nodes;
+    let count = u.steps;
+    let from = numbers[own_place(b) - 1] as usize;
+    let target = numbers[name_count(b) + (own_place(c) - 1)] as usize;
+    find_path(
+        b,
+        c,
+        &spans[..nodes],
+        &steps[..count],
+        from,
+        target,
+        &mut starts[..nodes + 1],
+        &mut rows[..nodes],
+        &mut places[..nodes],
+        out,
+    )
+}
 
 // The question in tables for few names and pairs, which take less time to clear.
 fn ask_small<'a>(b: &'a [u8], c: &'a [u8], full: bool, out: &mut [u8]) -> Reply
-    requires { ⌜ Owned (now b) (now c) × Within (now b) (now c) 256 256 ⌝ }
+    requires { ⌜ Owned (now b) (now c) × (namesOfBoth (now b) (now c) ≤ smallNames) × (pairsOfBoth (now b) (now c) ≤ smallPairs) ⌝ }
     ensures { λ r. ⌜ RepliesOwn full (now (b .entry)) (now (c .entry)) (now (out .entry)) r (now (out .exit)) ⌝ }
 {
-    let mut firsts = small_names();
-    let mut seconds = small_names();
-    let mut ones = small_names();
-    let mut twos = small_names();
-    let mut rows = small_keys();
-    let mut keys = small_keys();
-    let mut starts = small_names();
-    let mut ends = small_names();
-    let mut targets = small_targets();
-    let mut starts2 = small_names();
-    let mut ends2 = small_names();
-    let mut targets2 = small_targets();
-    let mut nodes = small_names();
-    let mut parents = small_names();
-    let mut kinds = small_kinds();
-    let mut places = small_names();
-    ask_named(
+    let mut rows = small_pairs();
+    let mut spans = small_spans();
+    let mut numbers = small_numbers();
+    let mut steps = small_pairs();
+    let mut starts = small_numbers();
+    let mut places = small_numbers();
+    ask_in(
         b,
         c,
         full,
-        &mut firsts,
-        &mut seconds,
-        &mut ones,
-        &mut twos,
         &mut rows,
-        &mut keys,
+        &mut spans,
+        &mut numbers,
+        &mut steps,
         &mut starts,
-        &mut ends,
-        &mut targets,
-        &mut starts2,
-        &mut ends2,
-        &mut targets2,
-        &mut nodes,
-        &mut parents,
-        &mut kinds,
         &mut places,
         out,
     )
 }
 
-// The question in tables for the names and pairs of any two records.
+// The question in tables for any two records.
 fn ask_large<'a>(b: &'a [u8], c: &'a [u8], full: bool, out: &mut [u8]) -> Reply
-    requires { ⌜ Owned (now b) (now c) × Within (now b) (now c) (2 * maxNames) (2 * maxPairs) ⌝ }
+    requires { ⌜ Owned (now b) (now c) ⌝ }
     ensures { λ r. ⌜ RepliesOwn full (now (b .entry)) (now (c .entry)) (now (out .entry)) r (now (out .exit)) ⌝ }
 {
-    let mut firsts = large_names();
-    let mut seconds = large_names();
-    let mut ones = large_names();
-    let mut twos = large_names();
-    let mut rows = large_keys();
-    let mut keys = large_keys();
-    let mut starts = large_names();
-    let mut ends = large_names();
-    let mut targets = large_targets();
-    let mut starts2 = large_names();
-    let mut ends2 = large_names();
-    let mut targets2 = large_targets();
-    let mut nodes = large_names();
-    let mut parents = large_names();
-    let mut kinds = large_kinds();
-    let mut places = large_names();
-    ask_named(
+    let mut rows = large_pairs();
+    let mut spans = large_spans();
+    let mut numbers = large_numbers();
+    let mut steps = large_pairs();
+    let mut starts = large_numbers();
+    let mut places = large_numbers();
+    ask_in(
         b,
         c,
         full,
-        &mut firsts,
-        &mut seconds,
-        &mut ones,
-        &mut twos,
         &mut rows,
-        &mut keys,
+        &mut spans,
+        &mut numbers,
+        &mut steps,
         &mut starts,
-        &mut ends,
-        &mut targets,
-        &mut starts2,
-        &mut ends2,
-        &mut targets2,
-        &mut nodes,
-        &mut parents,
-        &mut kinds,
         &mut places,
         out,
     )

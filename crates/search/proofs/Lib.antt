@@ -1,4 +1,24 @@
--- The two records of a question as numbered names and steps, and the reply for them.
-pub mod Sides
-pub mod Holding
-pub mod Asking
+-- What a search keeps true and what it tells; the answer in names; the laws of paths over relations alone; tables made of rows.
+pub mod PathOrder
+pub mod Walk
+pub mod Tree
+pub mod Turn
+pub mod Shortest
+pub mod Looking
+pub mod Laws
+pub mod Compared
+pub mod Local
+pub mod Named
+pub mod Leaving
+pub mod First
+pub mod Short
+pub mod Right
+pub mod Answer
+pub mod Merging
+pub mod Beginnings
+pub mod Rows
+pub mod StepTables
+pub mod Reading
+pub mod Spanning
+pub mod Filling
+pub mod Parts

@@ -1,3 +1,8 @@
--- How large the tables are, and what a question gives.
-pub mod Room
-pub mod Questions
+-- Steps and paths as numbers, the queue of a search, what it promises, and the names that its nodes stand for.
+pub mod Steps
+pub mod Queue
+pub mod Table
+pub mod Promise
+pub mod Spans
+pub mod Names
+pub mod Related

@@ -1,6 +1,5 @@
--- The laws of two records as one graph: the names that nodes have, their numbers, and the rows of steps.
-pub mod Named
-pub mod Numbering
-pub mod Merging
-pub mod Indexing
+-- Names joined, pairs as rows of steps, the steps of a question, and the nodes of two records.
+pub mod Joining
 pub mod Rows
+pub mod BothKinds
+pub mod Uniting

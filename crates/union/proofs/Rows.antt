@@ -1,186 +1,161 @@
--- The table of steps of one kind, from the merged and indexed keys of two records.
+-- The pairs of a record as a row of steps, and two records' rows as one table.
 use mathlib.Core.Path.{_≡_, refl, sym, ap, _∙_}
-use mathlib.Core.Logic.{inl, inr, ⊎-elim}
+use mathlib.Core.Logic.{_⊎_, inl, inr, ⊎-elim, _↔_}
 use mathlib.Core.Bool.{Bool, true, false}
-use mathlib.Core.List.{List, _++_, append-nil}
-use Prim.Native.Nat.{ℕ, _+_, _-_, _*_, _/_, _%_, _≤_, _<_}
+use mathlib.Core.List.{List}
+use mathlib.Core.Option.{some}
+use Prim.Native.Nat.{ℕ, _+_, _*_, _/_, _%_, _≤_, _<_}
 use native.Mathlib.Omega.{arith}
-use lib.ListN.{length, take, drop, getD, length-append, length-take, length-drop}
-use lib.Seq.{length-take-le, take-at, drop-at, take-length, drop-length}
+use lib.ListN.{length, getD, take, drop}
+use lib.Seq.{length-take-le}
 use Rattle.model.specs.declared.Kind.{Kind}
-use Rattle.model.specs.declared.Kind.the-variants.{Translation}
+use Rattle.model.specs.declared.Kind.the-variants.{Subgraph, Translation}
 use Rattle.model.specs.Bytes.{Bytes}
-use Rattle.model.specs.Layout.{pairLength, pairCount, tableAt, fromPlace, toPlace}
-use Rattle.paths.specs.Tables.{Edges, edges, Leaves, Made}
-use Rattle.union.specs.Keys.{keyAt, Rises, Among, Merged, Indexed, Leads, Built, Sorted, Roomy, Buildable, KindBuilt, TranslationsBuilt}
+use Rattle.model.specs.Record.{Pair, GraphName, comparePairs}
+use Rattle.model.specs.Layout.{recordLength, pairLength, nameCount, pairCount, tableAt, fromPlace, toPlace, decode}
+use Rattle.model.specs.Questions.{pairsOf}
+use Rattle.model.specs.Path.{kindNumber}
+use Rattle.model.specs.Statements.{Ascending, bySubgraph, byEither}
+use Rattle.record.proofs.Laws.{decoded, decode-held}
+use Rattle.record.proofs.Access.{record-pair, record-pairCount, pair-within}
+use Rattle.search.specs.Steps.{maxNodes, maxMoves}
+use Rattle.search.specs.Table.{Written, Merged, Mergeable}
+use Rattle.search.specs.Names.{InOrder, noPair, Row, StepTable}
+use Rattle.search.specs.Related.{ofKind, either}
+use Rattle.search.proofs.Filling.{first-long, second-long, first-row, second-row}
+use Rattle.search.proofs.StepTables.{row-table, table-same, tables-mergeable, merged-table}
+use Rattle.union.specs.Steps.{fromAt, toAt, stepAt, Rowable, Numbered, BothNumbered, Records, pairsOfKind, Gatherable, Gathered, byKind}
 
--- the keys as they were read
-abbrev pub Read : Bytes → ℕ → List ℕ → List ℕ → Type 0
-Read b at numbers keys = (p : ℕ) → p < length keys → getD keys p 0 ≡ keyAt b at numbers p
+-- with the table's place as the code has read it
+pub pair-placed : (b : Bytes) (k : Kind) (numbers : List ℕ) (base table p : ℕ) → Rowable b k numbers base → table ≡ tableAt k b → p < pairCount k b
+    → let at = table + pairLength * p in (at + pairLength ≤ length b) × (fromPlace b at < nameCount b) × (toPlace b at < nameCount b)
+pair-placed b k numbers base table p r e l = let w = r .places p l in rw e (omega (arith, r .long, r .within), w .0, w .1)
 
-pub read-rises : (b : Bytes) (at : ℕ) (numbers keys : List ℕ) (size : ℕ) → Sorted b at numbers (length keys) size → Read b at numbers keys → Rises keys
-read-rises b at numbers keys size s r i j l m = omega (arith, r i (omega arith), r j m, s .rising i j l m)
+-- ------------------------------------------------------------------ one record
 
--- what a key says
-record Says (b : Bytes) (at : ℕ) (numbers : List ℕ) (n size x : ℕ) : Type 0 where
-  pub leads : Leads b at numbers n (x / 65536) (x % 65536)
-  pub target : x % 65536 < size
-
-module _ (b : Bytes) (at : ℕ) (numbers keys : List ℕ) (size : ℕ) (sorted : Sorted b at numbers (length keys) size) (small : size ≤ 65536) (r : Read b at numbers keys) where
-  says : (x : ℕ) → Among keys (length keys) x → Says b at numbers (length keys) size x
-  says x w =
-      let e = sorted .paired .places (w .at) (w .lt) in
-      let f = sorted .small (fromPlace b (at + pairLength * w .at)) (e .0) in
-      let t = sorted .small (toPlace b (at + pairLength * w .at)) (e .1) in
-      let k = r (w .at) (w .lt) in
-      record {
-        leads = (w .at, w .lt, omega (arith, w .is), omega (arith, w .is));
-        target = omega (arith, w .is);
-      }
-
-  found : (v w : ℕ) → Leads b at numbers (length keys) v w → Among keys (length keys) (v * 65536 + w) × (w < size)
-  found v w l =
-      let e = sorted .paired .places (l .0) (l .1) in
-      let t = sorted .small (toPlace b (at + pairLength * l .0)) (e .1) in
-      (record { at = l .0; lt = l .1; is = r (l .0) (l .1) ∙ rw (l .2, l .3) }, omega (arith, l .3))
-
-module _ (b : Bytes) (s : ℕ) (ones : List ℕ) (c : Bytes) (t : ℕ) (twos : List ℕ) (a d keys starts ends targets : List ℕ) (size : ℕ)
-    (one : Sorted b s ones (length a) size) (two : Sorted c t twos (length d) size) (ra : Read b s ones a) (rd : Read c t twos d)
-    (merged : Merged a d keys) (indexed : Indexed keys starts ends) (split : (e : ℕ) → e < length targets → getD targets e 0 ≡ getD keys e 0 % 65536)
-    (targets-size : length targets ≡ length keys) (starts-size : length starts ≡ size) (ends-size : length ends ≡ size) (small : size ≤ 65536) where
-  target-small : (e : ℕ) → e < length targets → getD targets e 0 < size
-  target-small e l =
-      rw (split e l)
-      (⊎-elim
-      (λ (w : Among a (length a) (getD keys e 0)). says b s ones a size one small ra (getD keys e 0) w .target)
-      (λ (w : Among d (length d) (getD keys e 0)). says c t twos d size two small rd (getD keys e 0) w .target)
-      (merged .from e (omega arith)))
-
-  pub rows-made : Made (edges starts ends targets) size
-  rows-made = record {
-    starts = starts-size;
-    ends = ends-size;
-    inside = λ v l. omega (arith, indexed .inside v (omega arith));
-    nodes = target-small;
-    rising = λ v e f l low between high.
-        let vs : v < length starts = omega arith in
-        let i = indexed .inside v vs in
-        omega (arith, split e (omega arith), split f (omega arith), indexed .there v e vs low (omega arith), indexed .there v f vs (omega arith) high, merged .rises e f (omega arith) (omega arith));
-  }
-
-  pub rows-built : Built b s ones (length a) c t twos (length d) (edges starts ends targets)
-  rows-built = record {
-    from = λ v e l m.
-        let i = indexed .inside v l in
-        let k : e < length keys = omega (arith, m .1) in
-        let q = indexed .there v e l (m .0) (m .1) in
-        rw (split e (omega arith), ← q)
-        (⊎-elim
-        (λ (w : Among a (length a) (getD keys e 0)). inl (says b s ones a size one small ra (getD keys e 0) w .leads))
-        (λ (w : Among d (length d) (getD keys e 0)). inr (says c t twos d size two small rd (getD keys e 0) w .leads))
-        (merged .from e k));
-    of-first = λ v w l m. let f = found b s ones a size one small ra v w m in stands v w l (f .1) (rw (f .0 .is) at (merged .of-a (f .0 .at) (f .0 .lt)));
-    of-second = λ v w l m. let f = found c t twos d size two small rd v w m in stands v w l (f .1) (rw (f .0 .is) at (merged .of-b (f .0 .at) (f .0 .lt)));
+module _ (b : Bytes) (g : GraphName) (d : decode b ≡ some g) (numbers : List ℕ) (base size : ℕ) (name : ℕ → Bytes) (few : size ≤ maxNodes) (n : Numbered b numbers base size name) (k : Kind) where
+  pub rowable : Rowable b k numbers base
+  rowable = record {
+    long = decode-held b g d .long;
+    within = within k;
+    places = pair-within b g d k;
+    room = n .room;
+    small = λ p l. omega (arith, n .named p l .0);
   }
     where
-      stands : (v w : ℕ) → v < length starts → w < size → Among keys (length keys) (v * 65536 + w) → (e : ℕ) × Leaves (edges starts ends targets) v e × (getD targets e 0 ≡ w)
-      stands v w l m k =
-          let q : getD keys (k .at) 0 / 65536 ≡ v = omega (arith, k .is) in
-          (k .at, indexed .all v (k .at) l (k .lt) q, omega (arith, split (k .at) (omega (arith, k .lt)), k .is))
+      within : (k : Kind) → tableAt k b + pairLength * pairCount k b ≤ recordLength
+      within Subgraph = let h = decode-held b g d in omega (arith, h .count, h .subgraphs, h .translations)
+      within Translation = let h = decode-held b g d in omega (arith, h .count, h .subgraphs, h .translations)
 
-pub built-as : (b : Bytes) (s : ℕ) (ones : List ℕ) (x : ℕ) (c : Bytes) (t : ℕ) (twos : List ℕ) (y : ℕ) (es : Edges) (m n : ℕ) → x ≡ m → y ≡ n → Built b s ones x c t twos y es → Built b s ones m c t twos n es
-built-as b s ones x c t twos y es m n e f r = rw (e, f) at r
+  ascending : (k : Kind) → Ascending comparePairs (pairsOf k g)
+  ascending Subgraph = decoded b g d .0 .subgraphs
+  ascending Translation = decoded b g d .0 .translations
 
--- ------------------------------------------------------------------ in the front of longer tables
+  kind-small : (k : Kind) → kindNumber k < 2
+  kind-small Subgraph = omega arith
+  kind-small Translation = omega arith
 
--- what is lent from place m on
-behind-is : (m : ℕ) (l : List ℕ) → take (length l - m) (drop m l) ≡ drop m l
-behind-is m l = ap (λ (n : ℕ). take n (drop m l)) (sym (length-drop m l)) ∙ take-length (drop m l)
+  -- its pairs of a kind, in the order of their names
+  row-steps : InOrder name size → (row : List ℕ) → length row ≡ pairCount k b → ((p : ℕ) → p < pairCount k b → getD row p 0 ≡ stepAt b k numbers base p)
+      → StepTable row size name (ofKind k (pairsOf k g))
+  row-steps order row long is = row-table k size name (pairsOf k g) row few order made (ascending k)
+    where
+      made : Row k size name (pairsOf k g) row
+      made = record {
+        long = long ∙ sym (record-pairCount b g d k);
+        kinds = λ p l.
+            let i : p < pairCount k b = omega arith in
+            let w = pair-within b g d k p i in
+            omega (arith, is p i, n .named _ (w .0) .0, n .named _ (w .1) .0, kind-small k);
+        starts = λ p l.
+            let i : p < pairCount k b = omega arith in
+            let w = pair-within b g d k p i in
+            let f = n .named _ (w .0) in
+            let e : getD row p 0 / maxMoves ≡ getD numbers (base + fromAt b k p) 0 = omega (arith, is p i, f .0, n .named _ (w .1) .0, kind-small k) in
+            rw e (f .0, f .1 ∙ sym (ap (λ (q : Pair). q .from) (record-pair b g d k p noPair i)));
+        ends = λ p l.
+            let i : p < pairCount k b = omega arith in
+            let w = pair-within b g d k p i in
+            let f = n .named _ (w .1) in
+            let e : getD row p 0 % maxNodes ≡ getD numbers (base + toAt b k p) 0 = omega (arith, is p i, f .0, n .named _ (w .0) .0, kind-small k) in
+            rw e (f .0, f .1 ∙ sym (ap (λ (q : Pair). q .to) (record-pair b g d k p noPair i)));
+      }
 
-pub parts-ready : (m : ℕ) (l out : List ℕ) → (m ≤ length l) × Rises (take m l) × Rises (drop m l) × (length out ≡ length l)
-    → Rises (take m l) × Rises (take (length l - m) (drop m l)) × (length out ≡ length (take m l) + length (take (length l - m) (drop m l)))
-parts-ready m l out r = rw (behind-is m l) (r .1, r .2, r .3 ∙ simp (length-take, length-drop) (omega (arith, r .0)))
+-- ------------------------------------------------------------------ the pairs of one kind of both
 
-pub parts-merged : (m : ℕ) (l out : List ℕ) → Merged (take m l) (take (length l - m) (drop m l)) out → Merged (take m l) (drop m l) out
-parts-merged m l out r = rw (behind-is m l) at r
+module _ (b c : Bytes) (numbers : List ℕ) (k : Kind) (rows₀ rows₁ rows₂ : List ℕ)
+    (one : Written rows₀ rows₁ 0 (pairCount k b) (stepAt b k numbers 0)) (two : Written rows₁ rows₂ (pairCount k b) (pairCount k c) (stepAt c k numbers (nameCount b)))
+    (room : pairsOfKind k b c ≤ length rows₀) where
+  abbrev first : List ℕ
+  first = take (pairCount k b) (take (pairsOfKind k b c) rows₂)
 
--- a row read into the front of a table, and another behind it
-module _ (a l : List ℕ) (m : ℕ) (e : length a ≡ m) where
-  pub back-size : length (take (length (a ++ drop m l) - m) (drop m (a ++ drop m l))) ≡ length l - m
-  back-size = rw (behind-is m (a ++ drop m l), drop-at a (drop m l) m e) (length-drop m l)
+  abbrev second : List ℕ
+  second = drop (pairCount k b) (take (pairsOfKind k b c) rows₂)
 
-  pub both-rows : (d : List ℕ) → take m (a ++ drop m l) ++ (d ++ drop (length (a ++ drop m l) - m) (drop m (a ++ drop m l))) ≡ a ++ d
-  both-rows d =
-      let n : length (a ++ drop m l) - m ≡ length (drop m l) = simp length-append (omega (arith, e)) in
-      rw (take-at a (drop m l) m e, drop-at a (drop m l) m e, n, drop-length (drop m l)) (simp append-nil)
+  lengths : (length first ≡ pairCount k b) × (length second ≡ pairCount k c)
+  lengths = (
+    first-long rows₀ rows₁ rows₂ (pairCount k b) (pairCount k c) (stepAt b k numbers 0) (stepAt c k numbers (nameCount b)) one two room,
+    second-long rows₀ rows₁ rows₂ (pairCount k b) (pairCount k c) (stepAt b k numbers 0) (stepAt c k numbers (nameCount b)) one two room,
+  )
 
-module _ (l a d : List ℕ) (m : ℕ) (is : l ≡ a ++ d) (e : length a ≡ m) where
-  pub merge-ready : (keys : List ℕ) → Rises a → Rises d → length keys ≡ length a + length d → (m ≤ length l) × Rises (take m l) × Rises (drop m l) × (length keys ≡ length l)
-  merge-ready keys x y z = rw (is, take-at a d m e, drop-at a d m e) (simp length-append (omega (arith, e)), x, y, z ∙ simp length-append)
+  module _ (g h : GraphName) (d : decode b ≡ some g) (e : decode c ≡ some h) (size : ℕ) (name : ℕ → Bytes) (n : BothNumbered b c numbers size name) where
+    first-table : StepTable first size name (ofKind k (pairsOf k g))
+    first-table = row-steps b g d numbers 0 size name (n .few) (n .first) k (n .order) first (lengths .0)
+        (first-row rows₀ rows₁ rows₂ (pairCount k b) (pairCount k c) (stepAt b k numbers 0) (stepAt c k numbers (nameCount b)) one two room)
 
-  pub merged-rows : (keys : List ℕ) → Merged (take m l) (drop m l) keys → Merged a d keys
-  merged-rows keys r = rw (is, take-at a d m e, drop-at a d m e) at r
+    second-table : StepTable second size name (ofKind k (pairsOf k h))
+    second-table = row-steps c h e numbers (nameCount b) size name (n .few) (n .second) k (n .order) second (lengths .1)
+        (second-row rows₀ rows₁ rows₂ (pairCount k b) (pairCount k c) (stepAt b k numbers 0) (stepAt c k numbers (nameCount b)) one two room)
 
--- as many keys of each as there are pairs
-pub rows-ready : (b c : Bytes) (k : Kind) (ones twos rows keys starts ends targets : List ℕ) (m n s t : ℕ) → Buildable b c k ones twos rows keys starts ends targets
-    → m ≡ pairCount k b → n ≡ pairCount k c → s ≡ tableAt k b → t ≡ tableAt k c
-    → Sorted b s ones m (length starts) × Sorted c t twos (length (take (m + n) rows) - m) (length starts)
-    × Roomy (length starts) m (take (m + n) rows) (take (m + n) keys) starts ends (take (m + n) targets)
-rows-ready b c k ones twos rows keys starts ends targets m n s t r em en es et =
-    let x : length (take (m + n) rows) ≡ m + n = length-take-le (m + n) rows (omega (arith, r .rows-room)) in
-    let y : length (take (m + n) rows) - m ≡ n = omega arith in
-    let z : length (take (m + n) keys) ≡ m + n = length-take-le (m + n) keys (omega (arith, r .keys-room)) in
-    let w : length (take (m + n) targets) ≡ m + n = length-take-le (m + n) targets (omega (arith, r .targets-room)) in (
-      rw (em, es) (r .first-sorted),
-      rw (y, en, et) (r .second-sorted),
-      record {
-        front = omega arith;
-        merged = omega arith;
-        few = omega (arith, r .few);
-        targets-size = omega arith;
-        starts-size = refl;
-        ends-size = r .ends-size;
-        small = r .small;
-      },
-    )
+  pub kind-mergeable : (out : List ℕ) → Gatherable b c numbers (pairsOfKind k b c) rows₀ out → Mergeable first second out
+  kind-mergeable out r =
+      let t = r .records in
+      tables-mergeable first second (r .size) (r .name) (ofKind k (pairsOf k (t .g))) (ofKind k (pairsOf k (t .h)))
+      (first-table (t .g) (t .h) (t .first) (t .second) (r .size) (r .name) (r .numbered)) (second-table (t .g) (t .h) (t .first) (t .second) (r .size) (r .name) (r .numbered))
+      out (omega (arith, lengths, r .out-room))
 
-pub kind-built : (b c : Bytes) (k : Kind) (ones twos rows : List ℕ) (size : ℕ) (starts ends targets rest : List ℕ) (m n s t : ℕ)
-    → m ≡ pairCount k b → n ≡ pairCount k c → s ≡ tableAt k b → t ≡ tableAt k c
-    → length rows ≡ m + n → length targets ≡ m + n
-    → Made (edges starts ends targets) size × Built b s ones m c t twos (length rows - m) (edges starts ends targets)
-    → KindBuilt b c k ones twos size starts ends (targets ++ rest) (m + n)
-kind-built b c k ones twos rows size starts ends targets rest m n s t em en es et x z r =
-    let f : take (m + n) (targets ++ rest) ≡ targets = take-at targets rest (m + n) z in
-    let y : length rows - m ≡ n = omega arith in
-    record {
-      few = simp length-append (omega arith);
-      made = rw f (r .0);
-      built = rw (f, ← em, ← en, ← es, ← et) (rw y at (r .1));
-    }
+  pub kind-gathered : (out : List ℕ) (r : ℕ) → pairsOfKind k b c ≤ length out → Merged first second out r → Gathered b c numbers (byKind k) (pairsOfKind k b c) out r
+  kind-gathered out r fits m = record {
+    count = omega (arith, m .count, lengths);
+    steps = λ g h d e size name n.
+        merged-table first second size name (ofKind k (pairsOf k g)) (ofKind k (pairsOf k h)) (first-table g h d e size name n) (second-table g h d e size name n)
+        out (omega (arith, lengths)) r m;
+  }
 
--- ------------------------------------------------------------------ the translation steps
+-- with the counts as the code has read them
+module _ (b c : Bytes) (numbers : List ℕ) (k : Kind) (rows₀ rows₁ rows₂ out : List ℕ) (s t m : ℕ) (ready : Gatherable b c numbers (pairsOfKind k b c) rows₀ out)
+    (es : s ≡ pairCount k b) (et : t ≡ pairCount k c) (em : m ≡ nameCount b)
+    (one : Written rows₀ rows₁ 0 (pairCount k b) (stepAt b k numbers 0)) (two : Written rows₁ rows₂ s (pairCount k c) (stepAt c k numbers m)) where
+  behind : Written rows₁ rows₂ (pairCount k b) (pairCount k c) (stepAt c k numbers (nameCount b))
+  behind = rw (es, em) at two
 
-pub translations-full : (b c : Bytes) (ones twos : List ℕ) (size : ℕ) (starts ends targets : List ℕ) (n : ℕ) (full : Bool) → full ≡ true
-    → KindBuilt b c Translation ones twos size starts ends targets n → TranslationsBuilt full b c ones twos size starts ends targets n
-translations-full b c ones twos size starts ends targets n full e k = record {
-  few = k .few;
-  made = k .made;
-  built = λ d. k .built;
-  none = λ d. absurd (let z : _≡_ {A = ℕ} 0 1 = cc in omega arith);
-}
+  pub rows-fit : s + t ≤ length rows₂
+  rows-fit = omega (arith, es, et, ready .rows-room, one .long, two .long)
 
-pub translations-none : (b c : Bytes) (ones twos : List ℕ) (size : ℕ) (starts ends targets : List ℕ) (full : Bool) → full ≡ false
-    → length starts ≡ size → length ends ≡ size → ((v : ℕ) → v < length ends → getD ends v 0 ≡ 0)
-    → TranslationsBuilt full b c ones twos size starts ends targets 0
-translations-none b c ones twos size starts ends targets full e ls le clear = record {
-  few = omega arith;
-  made = record {
-    starts = ls;
-    ends = le;
-    inside = λ v l. omega (arith, clear v (omega arith));
-    nodes = λ i l. absurd (omega arith);
-    rising = λ v i f l low between high. absurd (omega (arith, clear v (omega arith)));
-  };
-  built = λ d. absurd (let z : _≡_ {A = ℕ} 0 1 = cc in omega arith);
-  none = λ d v i l m. omega (arith, clear v (omega arith), m .1);
-}
+  pub rows-mergeable : (s ≤ length (take (s + t) rows₂)) × Mergeable (take s (take (s + t) rows₂)) (drop s (take (s + t) rows₂)) out
+  rows-mergeable = (
+    omega (arith, length-take-le (s + t) rows₂ rows-fit),
+    rw (es, et) (kind-mergeable b c numbers k rows₀ rows₁ rows₂ one behind (ready .rows-room) out ready),
+  )
+
+  pub rows-gathered : (out′ : List ℕ) (r : ℕ) → length out′ ≡ length out → Merged (take s (take (s + t) rows₂)) (drop s (take (s + t) rows₂)) out′ r
+      → Gathered b c numbers (byKind k) (pairsOfKind k b c) out′ r
+  rows-gathered out′ r long w =
+      kind-gathered b c numbers k rows₀ rows₁ rows₂ one behind (ready .rows-room) out′ r (omega (arith, ready .out-room)) (rw (es, et) at w)
+
+pub record-sizes : (b c : Bytes) → Records b c → (length b ≡ recordLength) × (length c ≡ recordLength)
+record-sizes b c t = (decode-held b (t .g) (t .first) .long, decode-held c (t .h) (t .second) .long)
+
+module _ (b c : Bytes) (numbers : List ℕ) (k : Kind) (rows out : List ℕ) (ready : Gatherable b c numbers (pairsOfKind k b c) rows out) where
+  pub first-rowable : Rowable b k numbers 0 × (0 + pairCount k b ≤ length rows)
+  first-rowable =
+      let t = ready .records in
+      let n = ready .numbered in
+      (rowable b (t .g) (t .first) numbers 0 (ready .size) (ready .name) (n .few) (n .first) k, omega (arith, ready .rows-room))
+
+  pub second-rowable : (m s : ℕ) (rows₁ : List ℕ) → m ≡ nameCount b → s ≡ pairCount k b → length rows₁ ≡ length rows
+      → Rowable c k numbers m × (s + pairCount k c ≤ length rows₁)
+  second-rowable m s rows₁ em es long =
+      let t = ready .records in
+      let n = ready .numbered in
+      (rw em (rowable c (t .h) (t .second) numbers (nameCount b) (ready .size) (ready .name) (n .few) (n .second) k), omega (arith, ready .rows-room))

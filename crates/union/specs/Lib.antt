@@ -1,4 +1,4 @@
--- The names of nodes, the keys of steps, and the numbers of names.
+-- Names joined, pairs as steps, and both for two records.
 pub mod Names
-pub mod Keys
-pub mod Numbers
+pub mod Steps
+pub mod United

@@ -1,9 +1,13 @@
-// Two records as one graph of numbers: the names of both numbered in their order, and the pairs of both as tables of steps.
-mod edges;
+// Two records as one graph: the names of both numbered in their order, each a span of the two buffers, and the pairs of both as one
+// ascending table of steps between the numbers.
+mod graph;
 mod names;
-mod numbers;
+mod steps;
 
-pub use edges::kind_edges;
-pub use edges::translation_edges;
-pub use names::name_of;
-pub use numbers::number_names;
+pub use graph::unite;
+
+// How many nodes there are, and how many steps.
+pub struct United {
+    pub nodes: usize,
+    pub steps: usize,
+}

@@ -7,7 +7,7 @@ use Rattle.model.specs.Opening.{gives}
 use Rattle.model.specs.Describe.{describePath}
 use Rattle.model.specs.Written.{within}
 use Rattle.export.proofs.Answering.{refused-answers, no-room, written-answers}
-use Rattle.describe.specs.Steps.{stepsAt}
+use Rattle.path_bytes.specs.Reading.{stepsAt}
 use Rattle.describe.specs.Direction.{textWritten, pathText}
 use Rattle.describe.proofs.Tests.{path-read, long-descs, short-descs}
 use borrow.Author.Needs.{needs}
@@ -16,7 +16,7 @@ use Rattle.describe.proofs.relationship.describe_path.Tie as tie
 
 -- where the description starts from what was read
 abbrev start : tie.After-part → tie.Start
-start n = n .before .before .before .before .before .before .before .before .before .before
+start n = n .before .before .before .before .before .before .before .before .before .before .before
 
 -- the text that is measured and written
 abbrev text : tie.After-part → Bytes
@@ -30,12 +30,13 @@ asked : (n : tie.After-part) → let a = start n .args in
     textWritten (pathText (a .path .now) (a .from .now) (a .to .now)) (a .from .now) (a .to .now) (length (a .out .now)) ≡ within (length (a .out .now)) (gives (text n))
 asked n =
     let f = n .before .before in
-    let r = f .before in
+    let m = f .before in
+    let r = m .before in
     let k = r .before .before in
     let a = start n .args in
     ap (λ (x : Bytes). textWritten x (a .from .now) (a .to .now) (length (a .out .now)))
-    (path-read (a .path .now) (r .read16 .result) (n .before .read162 .result) (n .part .result .now) _ (a .from .now) (a .to .now)
-    (r .read16 .ensures .0) (n .before .read162 .ensures .0) (n .part .ensures) (f .after-last-empty .ensures .same))
+    (path-read (a .path .now) (r .name-count .result) (m .bodies-at .result) (n .before .name-length .result) (n .part .result .now) _ (a .from .now) (a .to .now)
+    (r .name-count .ensures .0) (m .bodies-at .ensures) (n .before .name-length .ensures .0) (n .part .ensures) (f .after-last-empty .ensures .same))
     ∙ short-descs (text n) (a .from .now) (a .to .now) _ (k .short .result) (k .short .ensures) (r .before .if1 .left)
 
 short-requires : tie.Need-short-requires
@@ -47,14 +48,11 @@ returns c =
     let a = k .before .before .before .before .before .args in
     refused-answers _ (a .out .now) 18 (long-descs (pathText (a .path .now) (a .from .now) (a .to .now)) (a .from .now) (a .to .now) _ (k .short .result) (k .short .ensures) (c .if1 .taken))
 
-read16-requires : tie.Need-read16-requires
-read16-requires c κs = search needs
+name-count-requires : tie.Need-name-count-requires
+name-count-requires c κs = search needs
 
-mul-after-last-empty : tie.Need-mul-after-last-empty
-mul-after-last-empty c = search needs
-
-add-after-last-empty : tie.Need-add-after-last-empty
-add-after-last-empty c = search needs
+bodies-at-requires : tie.Need-bodies-at-requires
+bodies-at-requires c κs = search needs
 
 sub-after-last-empty : tie.Need-sub-after-last-empty
 sub-after-last-empty c = search needs
@@ -62,14 +60,8 @@ sub-after-last-empty c = search needs
 after-last-empty-requires : tie.Need-after-last-empty-requires
 after-last-empty-requires c κs = search needs
 
-mul-part : tie.Need-mul-part
-mul-part c = search needs
-
-add-part : tie.Need-add-part
-add-part c = search needs
-
-read16-requires-2 : tie.Need-read16-requires-2
-read16-requires-2 c κs = search needs
+name-length-requires : tie.Need-name-length-requires
+name-length-requires c κs = search needs
 
 part-requires : tie.Need-part-requires
 part-requires c κs = search needs
@@ -106,14 +98,11 @@ describe-path-spec =
     (tie.spec
     short-requires
     returns
-    read16-requires
-    mul-after-last-empty
-    add-after-last-empty
+    name-count-requires
+    bodies-at-requires
     sub-after-last-empty
     after-last-empty-requires
-    mul-part
-    add-part
-    read16-requires-2
+    name-length-requires
     part-requires
     slice-aggregate-append-path
     append-path-requires

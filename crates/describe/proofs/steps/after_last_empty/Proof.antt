@@ -6,7 +6,7 @@ use lib.ListN.{take, drop}
 use borrow.Author.Tests.{eqb-true, eqb-false}
 use Rattle.model.specs.Bytes.{isEmpty}
 use Rattle.model.specs.Describe.{StepFrom, afterLastEmpty}
-use Rattle.describe.specs.Steps.{stepsAt, StepsIn}
+use Rattle.path_bytes.specs.Reading.{stepsAt, StepsIn}
 use Rattle.describe.proofs.Runs.{keeping, keeping-start, turn-empty, turn-full, empty-name, full-name, steps-rest, no-steps}
 use borrow.Author.Needs.{needs}
 use native.Mathlib.Omega.{arith}
@@ -25,8 +25,8 @@ abbrev μ-loop : tie.MeasureT-loop
 loop-holds : tie.Need-loop-holds Inv-loop μ-loop
 loop-holds c = (c .before .pre, c .before .pre, keeping-start _)
 
-read16-requires : tie.Need-read16-requires Inv-loop μ-loop
-read16-requires c κs = let l = c .before .loop in omega (arith, l .inv .0 .entries .size, l .inv .0 .entries .end)
+name-length-requires : tie.Need-name-length-requires Inv-loop μ-loop
+name-length-requires c κs = let l = c .before .loop in omega (arith, l .inv .0 .entries .size, l .inv .0 .entries .end)
 
 part-requires : tie.Need-part-requires Inv-loop μ-loop
 part-requires c κs = search needs
@@ -35,7 +35,7 @@ add-e : tie.Need-add-e Inv-loop μ-loop
 add-e c = let l = c .before .before .before .loop in omega (arith, l .inv .0 .entries .end)
 
 add-at : tie.Need-add-at Inv-loop μ-loop
-add-at c = let l = c .before .before .before .loop in omega (arith, l .inv .0 .near, c .before .read16 .ensures .1)
+add-at c = let l = c .before .before .before .loop in omega (arith, l .inv .0 .near, c .before .name-length .ensures .1)
 
 sub-left : tie.Need-sub-left Inv-loop μ-loop
 sub-left c = search needs
@@ -46,7 +46,7 @@ loop-less c = search needs
 loop-again : tie.Need-loop-again Inv-loop μ-loop
 loop-again c =
     let n = c .before in
-    let k = n .before .read16 in
+    let k = n .before .name-length in
     let l = n .before .before .before .loop in
     let p = n .before .before .before .before .before .args .path .now in
     let rest = steps-rest p (l .e) (l .at) (l .left) (search needs) (k .result) (k .ensures .1) (l .inv .0) in
@@ -59,7 +59,7 @@ loop-less-2 c = search needs
 loop-again-2 : tie.Need-loop-again-2 Inv-loop μ-loop
 loop-again-2 c =
     let n = c .before in
-    let k = n .before .read16 in
+    let k = n .before .name-length in
     let l = n .before .before .before .loop in
     let p = n .before .before .before .before .before .args .path .now in
     let rest = steps-rest p (l .e) (l .at) (l .left) (search needs) (k .result) (k .ensures .1) (l .inv .0) in
@@ -79,7 +79,7 @@ after-last-empty-spec =
     Inv-loop
     μ-loop
     loop-holds
-    read16-requires
+    name-length-requires
     part-requires
     add-e
     add-at

@@ -4,7 +4,7 @@ use Prim.Native.Nat.{_+_}
 use native.Mathlib.Omega.{arith}
 use Rattle.model.specs.Describe.{graphLines}
 use Rattle.text.proofs.Appending.{Rest, rest-start, rest-turn, appends-as}
-use Rattle.describe.specs.Steps.{stepsAt, StepsIn}
+use Rattle.path_bytes.specs.Reading.{stepsAt, StepsIn}
 use Rattle.describe.proofs.Runs.{graphs-turn, graphs-end, steps-rest}
 use borrow.Author.Needs.{needs}
 use Rattle.describe.proofs.steps.append_graphs.Statement.{statement}
@@ -22,8 +22,8 @@ abbrev μ-loop : tie.MeasureT-loop
 loop-holds : tie.Need-loop-holds Inv-loop μ-loop
 loop-holds c = let s = c .before .before .before in (s .pre, omega arith, rest-start (s .args .out .now) (s .args .at) _ (search needs))
 
-read16-requires : tie.Need-read16-requires Inv-loop μ-loop
-read16-requires c κs = let l = c .before .loop in omega (arith, l .inv .0 .entries .size, l .inv .0 .entries .end)
+name-length-requires : tie.Need-name-length-requires Inv-loop μ-loop
+name-length-requires c κs = let l = c .before .loop in omega (arith, l .inv .0 .entries .size, l .inv .0 .entries .end)
 
 part-requires : tie.Need-part-requires Inv-loop μ-loop
 part-requires c κs = search needs
@@ -38,7 +38,7 @@ add-e : tie.Need-add-e Inv-loop μ-loop
 add-e c = omega (arith, c .before .before .before .before .before .before .before .loop .inv .0 .entries .end)
 
 add-from : tie.Need-add-from Inv-loop μ-loop
-add-from c = omega (arith, c .before .before .before .before .before .before .before .loop .inv .0 .near, c .before .before .before .before .before .read16 .ensures .1)
+add-from c = omega (arith, c .before .before .before .before .before .before .before .loop .inv .0 .near, c .before .before .before .before .before .name-length .ensures .1)
 
 sub-left : tie.Need-sub-left Inv-loop μ-loop
 sub-left c = search needs
@@ -50,7 +50,7 @@ loop-again : tie.Need-loop-again Inv-loop μ-loop
 loop-again c =
     let k = c .before .before in
     let n = k .before in
-    let r = n .before .before .read16 in
+    let r = n .before .before .name-length in
     let l = k .before .before .before .before .before .loop in
     let s = k .before .before .before .before .before .before .before .before .before in
     let p = s .args .path .now in (
@@ -79,7 +79,7 @@ append-graphs-spec =
     Inv-loop
     μ-loop
     loop-holds
-    read16-requires
+    name-length-requires
     part-requires
     append-graph-requires
     add-i

@@ -4,7 +4,7 @@ use Prim.Native.Nat.{_+_}
 use native.Mathlib.Omega.{arith}
 use Rattle.model.specs.Describe.{stepLines}
 use Rattle.text.proofs.Appending.{Rest, rest-start, rest-turn, rest-end}
-use Rattle.describe.specs.Steps.{stepsAt, EntriesIn}
+use Rattle.path_bytes.specs.Reading.{stepsAt, EntriesIn}
 use Rattle.describe.proofs.Runs.{relationships-turn, relationships-end, entries-rest}
 use borrow.Author.Needs.{needs}
 use Rattle.describe.proofs.steps.append_relationships.Statement.{statement}
@@ -22,11 +22,8 @@ abbrev μ-loop : tie.MeasureT-loop
 loop-holds : tie.Need-loop-holds Inv-loop μ-loop
 loop-holds c = let s = c .before .before in (s .pre, omega arith, rest-start (s .args .out .now) (s .args .at) _ (search needs))
 
-add-read16 : tie.Need-add-read16 Inv-loop μ-loop
-add-read16 c = omega (arith, c .before .before .loop .inv .0 .end)
-
-read16-requires : tie.Need-read16-requires Inv-loop μ-loop
-read16-requires c κs = let l = c .before .before .loop in omega (arith, l .inv .0 .size, l .inv .0 .end)
+step-kind-requires : tie.Need-step-kind-requires Inv-loop μ-loop
+step-kind-requires c κs = let l = c .before .before .loop in omega (arith, l .inv .0 .size, l .inv .0 .end)
 
 append-relationship-requires : tie.Need-append-relationship-requires Inv-loop μ-loop
 append-relationship-requires c κs = omega (arith, c .before .before .before .before .before .before .pre .end)
@@ -46,7 +43,7 @@ loop-less c = search needs
 loop-again : tie.Need-loop-again Inv-loop μ-loop
 loop-again c =
     let k = c .before .before in
-    let r = k .before .read16 in
+    let r = k .before .step-kind in
     let l = k .before .before .before .before .loop in
     let p = k .before .before .before .before .before .before .before .args .path .now in (
       entries-rest p (l .e) 0 (l .left) (search needs) (l .inv .0),
@@ -69,8 +66,7 @@ append-relationships-spec =
     Inv-loop
     μ-loop
     loop-holds
-    add-read16
-    read16-requires
+    step-kind-requires
     append-relationship-requires
     add-i
     add-e

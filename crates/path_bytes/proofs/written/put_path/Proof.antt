@@ -1,76 +1,56 @@
 -- The size decides; then the count, and the names behind it.
-use mathlib.Core.Path.{_∙_}
-use Rattle.path_bytes.proofs.Joined.{path-short, path-writable, path-written}
-use native.Mathlib.Omega.{arith}
+use Rattle.path_bytes.proofs.Joined.{path-short, path-written}
+use borrow.Author.Needs.{needs}
 use Rattle.path_bytes.proofs.written.put_path.Statement.{statement}
 use Rattle.path_bytes.proofs.written.put_path.Tie as tie
 
-abbrev first-of : tie.After-slice-known → tie.Start
-first-of c = c .before .before .before .before .before .before .before .before
+path-length-requires : tie.Need-path-length-requires
+path-length-requires c κs = search needs
 
-abbrev start : tie.After-count-steps → tie.Start
-start c = first-of (c .before)
+add-count : tie.Need-add-count
+add-count c = search needs
 
-count-steps-requires : tie.Need-count-steps-requires
-count-steps-requires c κs = let r = first-of c .pre .0 .back in (r .parents-long, r .falls)
-
-mul-at : tie.Need-mul-at
-mul-at c = omega (arith, start c .pre .0 .small, c .count-steps .ensures .0)
-
-add-at : tie.Need-add-at
-add-at c = omega (arith, start c .pre .0 .small, c .count-steps .ensures .0)
+bodies-at-requires : tie.Need-bodies-at-requires
+bodies-at-requires c κs = search needs
 
 bodies-length-requires : tie.Need-bodies-length-requires
-bodies-length-requires c κs = start c .pre .0
+bodies-length-requires c κs = search needs
 
 add-if1 : tie.Need-add-if1
-add-if1 c = let k = c .before in omega (arith, start k .pre .0 .small, k .count-steps .ensures .0, c .bodies-length .ensures .0)
+add-if1 c = search needs
 
 returns : tie.Need-returns
 returns c =
     let b = c .before in
-    let k = b .before in
-    path-short _ _ _ _ _ (start k .pre .0) (start k .pre .1) _ _ (k .count-steps .ensures .1 _ _ _) (k .count-steps .ensures .0) (b .bodies-length .ensures .1 _) _ (c .if1 .taken)
-
-add-write16 : tie.Need-add-write16
-add-write16 c = let k = c .before .before .before in omega (arith, start k .pre .0 .small, k .count-steps .ensures .0)
+    path-short _ _ _ _ _ _ _ _ (b .before .before .path-length .ensures .0) (b .before .bodies-at .ensures) (b .bodies-length .ensures .0) _ (c .if1 .taken)
 
 write16-requires : tie.Need-write16-requires
-write16-requires c κs = let l = c .before in omega (arith, l .if1 .left)
+write16-requires c κs = search needs
 
 put-names-requires : tie.Need-put-names-requires
-put-names-requires c κs =
-    let w = c .before .before .before in
-    let l = w .before .before in
-    let b = l .before in
-    let k = b .before in
-    path-writable _ _ _ _ _ (start k .pre .0) (start k .pre .1) _ _ (k .count-steps .ensures .1 _ _ _) (k .count-steps .ensures .0) (b .bodies-length .ensures .1 _) _ (l .if1 .left) _ (w .write16 .ensures .1)
+put-names-requires c κs = search needs
 
 same-length : tie.Need-same-length
-same-length c =
-    let p = c .before .before in
-    p .put-names .kept .1 .1 .1 .1 .1 .1 .1 .1 .1 .1 .0 ∙ p .before .before .before .before .write16 .kept .0
+same-length c = search needs
 
 returns-2 : tie.Need-returns-2
 returns-2 c =
-    let p = c .before .before in
-    let w = p .before .before .before .before in
+    let n = c .before .before in
+    let w = n .before .before .before .before in
     let l = w .before .before in
     let b = l .before in
-    let k = b .before in
-    path-written _ _ _ _ _ (start k .pre .0) (start k .pre .1) _ _ (k .count-steps .ensures .1 _ _ _) (k .count-steps .ensures .0) (b .bodies-length .ensures .1 _) _ (l .if1 .left) _ (w .write16 .ensures .1) _ _ (p .put-names .ensures)
+    path-written _ _ _ _ _ _ _ _ (b .before .before .path-length .ensures .0) (b .before .bodies-at .ensures) (b .bodies-length .ensures .0) _ (l .if1 .left) _ (w .write16 .ensures .1) _ _ (n .put-names .ensures)
 
 pub put-path-spec : {M : Type 1} → statement M
 put-path-spec =
     tie.close
     (tie.spec
-    count-steps-requires
-    mul-at
-    add-at
+    path-length-requires
+    add-count
+    bodies-at-requires
     bodies-length-requires
     add-if1
     returns
-    add-write16
     write16-requires
     put-names-requires
     same-length

@@ -3,10 +3,10 @@ use native.Mathlib.Omega.{arith}
 use mathlib.Core.Path.{refl, sym, _∙_}
 use lib.ListN.{length}
 use denote.Ref.{now}
-use Rattle.search.specs.Questions.{Owned}
+use Rattle.union.specs.Steps.{Records}
+use Rattle.questions.specs.Asked.{Owned}
 use Rattle.record.proofs.Laws.{decode-held}
-use Rattle.search.proofs.Asking.{within-large}
-use Rattle.questions.proofs.Entry.{Faultless, faultless, ask-fault, ask-unnamed, ask-other-unnamed, owned-read, ask-read}
+use Rattle.questions.proofs.Entry.{faultless, ask-fault, ask-unnamed, ask-other-unnamed, owned-read, ask-read}
 use borrow.Author.Needs.{needs}
 use Rattle.questions.proofs.question.ask.Statement.{statement}
 use Rattle.questions.proofs.question.ask.Tie as tie
@@ -14,7 +14,7 @@ use Rattle.questions.proofs.question.ask.Tie as tie
 abbrev start : tie.After-fault-of-both → tie.Start
 start c = c .before .before .before .before
 
-right : (c : tie.Else1) → Faultless (now (start (c .before) .args .b)) (now (start (c .before) .args .c))
+right : (c : tie.Else1) → Records (now (start (c .before) .args .b)) (now (start (c .before) .args .c))
 right c = faultless _ _ (sym (c .before .fault-of-both .ensures) ∙ c .if1 .left)
 
 owned : (e : tie.Else3) → Owned (now (start (e .before .before .before .before .before) .args .b)) (now (start (e .before .before .before .before .before) .args .c))
@@ -42,7 +42,10 @@ fits-requires : tie.Need-fits-requires
 fits-requires c κs = let f = right (c .before .before .before .before) in (decode-held _ _ (f .first) .long, decode-held _ _ (f .second) .long)
 
 ask-small-requires : tie.Need-ask-small-requires
-ask-small-requires c κs = let a = c .before .before in (owned (a .before), a .fits2 .ensures (c .before .if4 .taken))
+ask-small-requires c κs =
+    let a = c .before .before in
+    let f = a .fits2 .ensures (c .before .if4 .taken) in
+    (owned (a .before), f .0, f .1)
 
 same-length : tie.Need-same-length
 same-length c = search needs
@@ -56,7 +59,7 @@ returns-4 c =
     (start (l .before) .args .full) (now (start (l .before) .args .out)) _ _ (a .ask-small .ensures)
 
 ask-large-requires : tie.Need-ask-large-requires
-ask-large-requires c κs = let o = owned (c .before .before .before) in (o, within-large _ _ o)
+ask-large-requires c κs = owned (c .before .before .before)
 
 same-length-2 : tie.Need-same-length-2
 same-length-2 c = search needs

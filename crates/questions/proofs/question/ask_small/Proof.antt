@@ -1,135 +1,55 @@
 -- The tables are as long as they were made.
-use mathlib.Core.Path.{sym, _∙_}
+use native.Mathlib.Omega.{arith}
 use borrow.Author.Needs.{needs}
+use Rattle.questions.specs.Room.{smallNames, smallPairs}
+use Rattle.questions.proofs.Answering.{roomy}
 use Rattle.questions.proofs.question.ask_small.Statement.{statement}
 use Rattle.questions.proofs.question.ask_small.Tie as tie
 
-small-names-requires : tie.Need-small-names-requires
-small-names-requires c κs = search needs
+small-pairs-requires : tie.Need-small-pairs-requires
+small-pairs-requires c κs = search needs
 
-small-names-requires-2 : tie.Need-small-names-requires-2
-small-names-requires-2 c κs = search needs
+small-spans-requires : tie.Need-small-spans-requires
+small-spans-requires c κs = search needs
 
-small-names-requires-3 : tie.Need-small-names-requires-3
-small-names-requires-3 c κs = search needs
+small-numbers-requires : tie.Need-small-numbers-requires
+small-numbers-requires c κs = search needs
 
-small-names-requires-4 : tie.Need-small-names-requires-4
-small-names-requires-4 c κs = search needs
+small-pairs-requires-2 : tie.Need-small-pairs-requires-2
+small-pairs-requires-2 c κs = search needs
 
-small-keys-requires : tie.Need-small-keys-requires
-small-keys-requires c κs = search needs
+small-numbers-requires-2 : tie.Need-small-numbers-requires-2
+small-numbers-requires-2 c κs = search needs
 
-small-keys-requires-2 : tie.Need-small-keys-requires-2
-small-keys-requires-2 c κs = search needs
+small-numbers-requires-3 : tie.Need-small-numbers-requires-3
+small-numbers-requires-3 c κs = search needs
 
-small-names-requires-5 : tie.Need-small-names-requires-5
-small-names-requires-5 c κs = search needs
+slice-aggregate-ask-in : tie.Need-slice-aggregate-ask-in
+slice-aggregate-ask-in c = search needs
 
-small-names-requires-6 : tie.Need-small-names-requires-6
-small-names-requires-6 c κs = search needs
+slice-aggregate-ask-in-2 : tie.Need-slice-aggregate-ask-in-2
+slice-aggregate-ask-in-2 c = search needs
 
-small-targets-requires : tie.Need-small-targets-requires
-small-targets-requires c κs = search needs
+slice-aggregate-ask-in-3 : tie.Need-slice-aggregate-ask-in-3
+slice-aggregate-ask-in-3 c = search needs
 
-small-names-requires-7 : tie.Need-small-names-requires-7
-small-names-requires-7 c κs = search needs
+slice-aggregate-ask-in-4 : tie.Need-slice-aggregate-ask-in-4
+slice-aggregate-ask-in-4 c = search needs
 
-small-names-requires-8 : tie.Need-small-names-requires-8
-small-names-requires-8 c κs = search needs
+slice-aggregate-ask-in-5 : tie.Need-slice-aggregate-ask-in-5
+slice-aggregate-ask-in-5 c = search needs
 
-small-targets-requires-2 : tie.Need-small-targets-requires-2
-small-targets-requires-2 c κs = search needs
+slice-aggregate-ask-in-6 : tie.Need-slice-aggregate-ask-in-6
+slice-aggregate-ask-in-6 c = search needs
 
-small-names-requires-9 : tie.Need-small-names-requires-9
-small-names-requires-9 c κs = search needs
-
-small-names-requires-10 : tie.Need-small-names-requires-10
-small-names-requires-10 c κs = search needs
-
-small-kinds-requires : tie.Need-small-kinds-requires
-small-kinds-requires c κs = search needs
-
-small-names-requires-11 : tie.Need-small-names-requires-11
-small-names-requires-11 c κs = search needs
-
-slice-aggregate-ask-named : tie.Need-slice-aggregate-ask-named
-slice-aggregate-ask-named c = search needs
-
-slice-aggregate-ask-named-2 : tie.Need-slice-aggregate-ask-named-2
-slice-aggregate-ask-named-2 c = search needs
-
-slice-aggregate-ask-named-3 : tie.Need-slice-aggregate-ask-named-3
-slice-aggregate-ask-named-3 c = search needs
-
-slice-aggregate-ask-named-4 : tie.Need-slice-aggregate-ask-named-4
-slice-aggregate-ask-named-4 c = search needs
-
-slice-aggregate-ask-named-5 : tie.Need-slice-aggregate-ask-named-5
-slice-aggregate-ask-named-5 c = search needs
-
-slice-aggregate-ask-named-6 : tie.Need-slice-aggregate-ask-named-6
-slice-aggregate-ask-named-6 c = search needs
-
-slice-aggregate-ask-named-7 : tie.Need-slice-aggregate-ask-named-7
-slice-aggregate-ask-named-7 c = search needs
-
-slice-aggregate-ask-named-8 : tie.Need-slice-aggregate-ask-named-8
-slice-aggregate-ask-named-8 c = search needs
-
-slice-aggregate-ask-named-9 : tie.Need-slice-aggregate-ask-named-9
-slice-aggregate-ask-named-9 c = search needs
-
-slice-aggregate-ask-named-10 : tie.Need-slice-aggregate-ask-named-10
-slice-aggregate-ask-named-10 c = search needs
-
-slice-aggregate-ask-named-11 : tie.Need-slice-aggregate-ask-named-11
-slice-aggregate-ask-named-11 c = search needs
-
-slice-aggregate-ask-named-12 : tie.Need-slice-aggregate-ask-named-12
-slice-aggregate-ask-named-12 c = search needs
-
-slice-aggregate-ask-named-13 : tie.Need-slice-aggregate-ask-named-13
-slice-aggregate-ask-named-13 c = search needs
-
-slice-aggregate-ask-named-14 : tie.Need-slice-aggregate-ask-named-14
-slice-aggregate-ask-named-14 c = search needs
-
-slice-aggregate-ask-named-15 : tie.Need-slice-aggregate-ask-named-15
-slice-aggregate-ask-named-15 c = search needs
-
-slice-aggregate-ask-named-16 : tie.Need-slice-aggregate-ask-named-16
-slice-aggregate-ask-named-16 c = search needs
-
-ask-named-requires : tie.Need-ask-named-requires
-ask-named-requires c κs =
-    let t = c .before .before .before .before .before .before .before .before .before .before .before .before .before .before .before .before .before in
-    let s = t .before .before .before .before .before .before .before .before .before .before .before .before .before .before .before .before .before .before .before in
-    let names = t .before .before .before .before .before .before .before .before .before .before .before .before .before .before .before .small-names .ensures in
-    let pairs = t .before .before .before .before .before .before .before .before .before .before .small-keys2 .ensures in (
+ask-in-requires : tie.Need-ask-in-requires
+ask-in-requires c κs =
+    let t = c .before .before .before .before .before .before .before in
+    let s = t .before .before .before .before .before .before .before .before .before in (
       s .pre .0,
-      (
-        rw (names, pairs) (s .pre .1),
-        (
-          record {
-            seconds-size = t .before .before .before .before .before .before .before .before .before .before .before .before .before .before .small-names2 .ensures ∙ sym names;
-            ones-size = t .before .before .before .before .before .before .before .before .before .before .before .before .before .small-names3 .ensures ∙ sym names;
-            twos-size = t .before .before .before .before .before .before .before .before .before .before .before .before .small-names4 .ensures ∙ sym names;
-            starts-size = t .before .before .before .before .before .before .before .before .before .small-names5 .ensures ∙ sym names;
-            ends-size = t .before .before .before .before .before .before .before .before .small-names6 .ensures ∙ sym names;
-            starts′-size = t .before .before .before .before .before .before .small-names7 .ensures ∙ sym names;
-            ends′-size = t .before .before .before .before .before .small-names8 .ensures ∙ sym names;
-            nodes-size = t .before .before .before .small-names9 .ensures ∙ sym names;
-            parents-size = t .before .before .small-names10 .ensures ∙ sym names;
-            kinds-size = t .before .small-kinds .ensures ∙ sym names;
-            places-size = t .small-names11 .ensures ∙ sym names;
-          },
-          record {
-            rows-size = t .before .before .before .before .before .before .before .before .before .before .before .small-keys .ensures ∙ sym pairs;
-            targets-size = t .before .before .before .before .before .before .before .small-targets .ensures ∙ sym pairs;
-            targets′-size = t .before .before .before .before .small-targets2 .ensures ∙ sym pairs;
-          },
-        ),
-      ),
+      roomy _ _ smallNames smallPairs _ _ _ _ _ _ (s .pre .1) (s .pre .2) (omega arith)
+          (t .before .before .before .before .before .small-pairs .ensures) (t .before .before .before .before .small-spans .ensures) (t .before .before .before .small-numbers .ensures)
+          (t .before .before .small-pairs2 .ensures) (t .before .small-numbers2 .ensures) (t .small-numbers3 .ensures),
     )
 
 same-length : tie.Need-same-length
@@ -142,38 +62,18 @@ pub ask-small-spec : {M : Type 1} → statement M
 ask-small-spec =
     tie.close
     (tie.spec
-    small-names-requires
-    small-names-requires-2
-    small-names-requires-3
-    small-names-requires-4
-    small-keys-requires
-    small-keys-requires-2
-    small-names-requires-5
-    small-names-requires-6
-    small-targets-requires
-    small-names-requires-7
-    small-names-requires-8
-    small-targets-requires-2
-    small-names-requires-9
-    small-names-requires-10
-    small-kinds-requires
-    small-names-requires-11
-    slice-aggregate-ask-named
-    slice-aggregate-ask-named-2
-    slice-aggregate-ask-named-3
-    slice-aggregate-ask-named-4
-    slice-aggregate-ask-named-5
-    slice-aggregate-ask-named-6
-    slice-aggregate-ask-named-7
-    slice-aggregate-ask-named-8
-    slice-aggregate-ask-named-9
-    slice-aggregate-ask-named-10
-    slice-aggregate-ask-named-11
-    slice-aggregate-ask-named-12
-    slice-aggregate-ask-named-13
-    slice-aggregate-ask-named-14
-    slice-aggregate-ask-named-15
-    slice-aggregate-ask-named-16
-    ask-named-requires
+    small-pairs-requires
+    small-spans-requires
+    small-numbers-requires
+    small-pairs-requires-2
+    small-numbers-requires-2
+    small-numbers-requires-3
+    slice-aggregate-ask-in
+    slice-aggregate-ask-in-2
+    slice-aggregate-ask-in-3
+    slice-aggregate-ask-in-4
+    slice-aggregate-ask-in-5
+    slice-aggregate-ask-in-6
+    ask-in-requires
     same-length
     returns)

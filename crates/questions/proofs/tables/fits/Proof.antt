@@ -1,6 +1,5 @@
--- Each sum that is not too large is one of the three bounds.
-use native.Mathlib.Omega.{arith}
-use Rattle.search.proofs.Asking.{within-not}
+-- Each sum that is not too large is one of the two bounds.
+use mathlib.Core.Bool.{false≢true}
 use borrow.Author.Needs.{needs}
 use Rattle.questions.proofs.tables.fits.Statement.{statement}
 use Rattle.questions.proofs.tables.fits.Tie as tie
@@ -15,7 +14,7 @@ add-if1 : tie.Need-add-if1
 add-if1 c = search needs
 
 returns : tie.Need-returns
-returns c = within-not _ _
+returns c = λ e. absurd (false≢true e)
 
 pair-count-requires : tie.Need-pair-count-requires
 pair-count-requires c κs = search needs
@@ -23,11 +22,8 @@ pair-count-requires c κs = search needs
 pair-count-requires-2 : tie.Need-pair-count-requires-2
 pair-count-requires-2 c κs = search needs
 
-add-if2 : tie.Need-add-if2
-add-if2 c = search needs
-
-returns-2 : tie.Need-returns-2
-returns-2 c = within-not _ _
+add-subgraphs : tie.Need-add-subgraphs
+add-subgraphs c = search needs
 
 pair-count-requires-3 : tie.Need-pair-count-requires-3
 pair-count-requires-3 c κs = search needs
@@ -35,22 +31,17 @@ pair-count-requires-3 c κs = search needs
 pair-count-requires-4 : tie.Need-pair-count-requires-4
 pair-count-requires-4 c κs = search needs
 
-add-if3 : tie.Need-add-if3
-add-if3 c = search needs
+add-translations : tie.Need-add-translations
+add-translations c = search needs
+
+add-if2 : tie.Need-add-if2
+add-if2 c = search needs
+
+returns-2 : tie.Need-returns-2
+returns-2 c = λ e. absurd (false≢true e)
 
 returns-3 : tie.Need-returns-3
-returns-3 c = within-not _ _
-
-returns-4 : tie.Need-returns-4
-returns-4 c =
-    let e2 = c .before .before .before in
-    let e1 = e2 .before .before .before in
-    λ e.
-    record {
-      names-fit = omega (arith, e1 .if1 .left, e1 .before .name-count2 .ensures .0, e1 .before .before .name-count .ensures .0);
-      subgraphs-fit = omega (arith, e2 .if2 .left, e2 .before .pair-count2 .ensures .0, e2 .before .before .pair-count .ensures .0);
-      translations-fit = omega (arith, c .if3 .left, c .before .pair-count4 .ensures .0, c .before .before .pair-count3 .ensures .0);
-    }
+returns-3 c = search needs
 
 pub fits-spec : {M : Type 1} → statement M
 fits-spec =
@@ -62,10 +53,10 @@ fits-spec =
     returns
     pair-count-requires
     pair-count-requires-2
-    add-if2
-    returns-2
+    add-subgraphs
     pair-count-requires-3
     pair-count-requires-4
-    add-if3
-    returns-3
-    returns-4)
+    add-translations
+    add-if2
+    returns-2
+    returns-3)
