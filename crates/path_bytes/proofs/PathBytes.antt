@@ -37,7 +37,7 @@ unfolding entriesWith pathEntries
 entries-path a [] = refl
 entries-path a (s ∷ ss) = rw (entries-path (s .next) ss)
 
-pub bodies-snoc : (a : Bytes) (ss : List Step) (s : Step) → pathBodies a (ss ++ (s ∷ [])) ≡ pathBodies a ss ++ s .next
+bodies-snoc : (a : Bytes) (ss : List Step) (s : Step) → pathBodies a (ss ++ (s ∷ [])) ≡ pathBodies a ss ++ s .next
 unfolding pathBodies
 bodies-snoc a [] s = refl
 bodies-snoc a (t ∷ ss) s = rw (bodies-snoc (t .next) ss s) (simp append-assoc)

@@ -12,14 +12,33 @@ use record::fault_of_both;
 use record::name_count;
 use record::own_place;
 use union::unite;
+ghost use mathlib.Core.Path.{_≡_};
 ghost use Prim.Native.Nat.{_≤_};
 ghost use lib.ListN.{length};
 ghost use Rattle.model.specs.Outcome.{askSubgraph, askFull};
 ghost use Rattle.path_bytes.specs.Replies.{Replies};
 ghost use Rattle.union.specs.Steps.{pairsOfBoth};
 ghost use Rattle.union.specs.United.{namesOfBoth};
-ghost use Rattle.questions.specs.Asked.{askOf, Owned, RepliesOwn};
+ghost use Rattle.questions.specs.Asked.{askOf, Owned, fromNode, targetNode, RepliesOwn};
 ghost use Rattle.questions.specs.Room.{smallNames, smallPairs, Roomy};
+
+// The nodes that a question is asked from and about.
+struct Ends {
+    from: usize,
+    target: usize,
+}
+
+// The nodes of the own names of two records, in a table of the nodes of b's names by place and behind these of c's.
+fn own_nodes(b: &[u8], c: &[u8], numbers: &[u16]) -> Ends
+    requires { ⌜ Owned (now b) (now c) × (namesOfBoth (now b) (now c) ≤ length (now numbers)) ⌝ }
+    ensures { λ r. ⌜ (r .from ≡ fromNode (now (b .entry)) (now (numbers .entry))) × (r .target ≡ targetNode (now (b .entry)) (now (c .entry)) (now (numbers .entry))) ⌝ }
+{
+    let own = own_place(b) - 1;
+    let other = name_count(b) + (own_place(c) - 1);
+    let from = numbers[own] as usize;
+    let target = numbers[other] as usize;
+    Ends { from, target }
+}
 
 // The path between the own names of two records, over the pairs of both, in tables that are lent. Both records become nodes, whose names
 // are `spans`, and `steps`; `numbers` has by place in each record the node of the name there. The search has where the steps of each node
@@ -42,8 +61,9 @@ fn ask_in<'a>(
     let u = unite(b, c, full, rows, spans, numbers, steps);
     let nodes = u.nodes;
     let count = u.steps;
-    let from = numbers[own_place(b) - 1] as usize;
-    let target = numbers[name_count(b) + (own_place(c) - 1)] as usize;
+    let ends = own_nodes(b, c, numbers);
+    let from = ends.from;
+    let target = ends.target;
     find_path(
         b,
         c,

@@ -1,11 +1,12 @@
--- What the promise of a search says of its target: it is reached exactly if there is a path to it, and then its place has the best one.
-use mathlib.Core.Path.{_≡_, sym, ap, _∙_}
+-- What the promise of a search says of its target: it is reached exactly if there is a path to it, and then its place has the best one;
+-- where it is no node, nothing is left.
+use mathlib.Core.Path.{_≡_, refl, sym, _∙_}
 use mathlib.Core.Logic.{⊎-elim}
 use mathlib.Core.Bool.{Bool, true, false, false≢true}
 use mathlib.Core.List.{List}
-use Prim.Native.Nat.{ℕ, _+_, _-_, _≤_, _<_}
+use Prim.Native.Nat.{ℕ, _-_, _≤_, _<_}
 use native.Mathlib.Omega.{arith}
-use lib.ListN.{length, getD}
+use lib.ListN.{length}
 use Rattle.search.specs.declared.Searched.{Searched}
 use Rattle.search.specs.Steps.{Moves, IsPath, Earlier, Best}
 use Rattle.search.specs.Queue.{nodeAt}
@@ -34,6 +35,14 @@ module _ (R : Moves) (size from target : ℕ) (q places : List ℕ) (r : Searche
 
   pub node-inside : (j : ℕ) → j < r .taken → nodeAt q j < size
   node-inside j l = omega (arith, s .seats .inside j (omega (arith, s .count .0)), s .places-long)
+
+  -- with a target that is no node the search runs to the end
+  pub whole-run : size ≤ target → r .taken ≡ r .found
+  whole-run l = go (r .reached) refl (s .ends)
+    where
+      go : (t : Bool) → r .reached ≡ t → Ends q target (r .taken) (r .found) t → r .taken ≡ r .found
+      go true e h = absurd (omega (arith, h, node-inside (r .taken - 1) (omega (arith, s .start .0))))
+      go false e h = h
 
   -- every found place can be walked back from
   pub leads-back : size ≤ length q → (j : ℕ) → j < r .found → Back q j

@@ -13,6 +13,7 @@ pub mod Leaving
 pub mod First
 pub mod Short
 pub mod Right
+pub mod Between
 pub mod Answer
 pub mod Merging
 pub mod Beginnings

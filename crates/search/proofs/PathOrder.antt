@@ -7,13 +7,13 @@ use native.Mathlib.Omega.{arith}
 use lib.ListN.{length-append}
 use Rattle.search.specs.Steps.{maxNodes, Moves, IsPath, Before, Earlier, NotLater, Best}
 
-pub before-irrefl : (ms : List ℕ) → Before ms ms → ⊥
+before-irrefl : (ms : List ℕ) → Before ms ms → ⊥
 unfolding Before
 before-irrefl [] h = h
 before-irrefl (m ∷ ms) (inl h) = omega arith
 before-irrefl (m ∷ ms) (inr h) = before-irrefl ms (h .1)
 
-pub before-trans : (ms ks ls : List ℕ) → Before ms ks → Before ks ls → Before ms ls
+before-trans : (ms ks ls : List ℕ) → Before ms ks → Before ks ls → Before ms ls
 unfolding Before
 before-trans [] ks ls h i = absurd h
 before-trans (m ∷ ms) [] ls h i = absurd h
@@ -25,7 +25,7 @@ before-trans (m ∷ ms) (k ∷ ks) (l ∷ ls) (inr h) (inr i) = inr (h .0 ∙ i 
 
 -- ------------------------------------------------------------------ by length, then in that order
 
-pub earlier-irrefl : (ms : List ℕ) → Earlier ms ms → ⊥
+earlier-irrefl : (ms : List ℕ) → Earlier ms ms → ⊥
 earlier-irrefl ms (inl h) = omega arith
 earlier-irrefl ms (inr h) = before-irrefl ms (h .1)
 
@@ -40,7 +40,7 @@ not-later-trans ms ks ls (inl e) i = rw e at i
 not-later-trans ms ks ls (inr h) (inl e) = inr (rw e h)
 not-later-trans ms ks ls (inr h) (inr i) = inr (earlier-trans ms ks ls h i)
 
-pub not-later-antisym : (ms ks : List ℕ) → NotLater ms ks → NotLater ks ms → ms ≡ ks
+not-later-antisym : (ms ks : List ℕ) → NotLater ms ks → NotLater ks ms → ms ≡ ks
 not-later-antisym ms ks (inl e) i = sym e
 not-later-antisym ms ks (inr h) (inl e) = e
 not-later-antisym ms ks (inr h) (inr i) = absurd (earlier-irrefl ms (earlier-trans ms ks ms h i))

@@ -1,12 +1,10 @@
 -- The path to a place, read back one step at a time.
-use mathlib.Core.Path.{_≡_, refl, sym, ap, _∙_}
+use mathlib.Core.Path.{_≡_}
 use mathlib.Core.List.{List, [], _∷_, _++_}
-use Prim.Native.Nat.{ℕ, zero, suc, _+_, _-_, _≤_, _<_}
+use Prim.Native.Nat.{ℕ, zero, suc, _+_, _≤_, _<_}
 use native.Mathlib.Decide.{ℕ-discrete}
 use native.Mathlib.Omega.{arith}
-use lib.ListN.{length, getD, set, take, drop, length-append, length-set}
-use borrow.Author.Count.{below-more}
-use lib.Seq.{drop-cons, drop-set-lt, take-set-lt, getD-set-same, getD-set-other, length-take-le, append-snoc, drop-length}
+use lib.ListN.{length, length-append}
 use Rattle.search.specs.Queue.{prevAt, moveAt}
 use Rattle.search.specs.Promise.{pathTo, Back}
 use Rattle.search.proofs.Walk.{path-first, path-step}

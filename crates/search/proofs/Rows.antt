@@ -1,7 +1,7 @@
 -- The steps of an ascending list of pairs ascend, and stand for its relations.
 use mathlib.Core.Path.{_≡_, sym, ap, _∙_}
 use mathlib.Core.Logic.{⊎-elim}
-use mathlib.Core.List.{List, List·Memᴰ, Memᴰ·cast}
+use mathlib.Core.List.{List, Memᴰ·cast}
 use Prim.Native.Nat.{ℕ, _/_, _%_, _≤_, _<_}
 use native.Mathlib.Omega.{arith}
 use lib.ListN.{length, getD}
@@ -12,7 +12,7 @@ use Rattle.model.specs.declared.Kind.the-variants.{Subgraph, Translation}
 use Rattle.model.specs.Bytes.{Bytes, compareBytes}
 use Rattle.model.specs.Record.{Pair, comparePairs}
 use Rattle.model.specs.Path.{kindNumber}
-use Rattle.model.specs.Statements.{Ascending, Relation}
+use Rattle.model.specs.Statements.{Ascending}
 use Rattle.text.proofs.Order.{thenBy-less, bytes-order, pairs-order}
 use Rattle.text.proofs.Places.{getD-member, member-getD, ascending-getD}
 use Rattle.search.specs.Steps.{maxNodes, maxMoves, leads}

@@ -10,11 +10,10 @@ use Rattle.model.specs.declared.Kind.{Kind}
 use Rattle.model.specs.Bytes.{Bytes}
 use Rattle.model.specs.Record.{Pair, comparePairs}
 use Rattle.model.specs.Statements.{Ascending, Relation}
-use Rattle.search.specs.Steps.{maxNodes, maxMoves, Moves, leads}
-use Rattle.search.specs.Queue.{Room}
+use Rattle.search.specs.Steps.{maxNodes, maxMoves, leads}
 use Rattle.search.specs.Table.{noStep, Rises, Holds, Mergeable, Merged}
 use Rattle.search.specs.Promise.{Unindexed}
-use Rattle.search.specs.Names.{kindOf, InOrder, Stands, StepTable, Row}
+use Rattle.search.specs.Names.{kindOf, InOrder, StepTable, Row}
 use Rattle.search.specs.Related.{ofKind, either}
 use Rattle.search.proofs.Rows.{row-rises, row-stands}
 

@@ -3,6 +3,7 @@ use crate::MAX_MOVES;
 ghost use mathlib.Core.Path.{_≡_};
 ghost use Prim.Native.Nat.{ℕ, _+_, _*_, _≤_, _<_};
 ghost use lib.ListN.{length, getD, take, drop};
+ghost use Rattle.search.specs.Steps.{maxMoves};
 ghost use Rattle.search.specs.Table.{Rises, Head, Mergeable, Merged, Indexed};
 
 // Greater than every step.
@@ -68,8 +69,8 @@ pub fn merge_rows(rows: &[u32], m: usize, out: &mut [u32]) -> usize
 
 // Where the steps of node v begin, from place e on.
 fn seek(steps: &[u32], v: usize, e: usize) -> usize
-    requires { ⌜ (e ≤ length (now steps)) × ((i : ℕ) → i < e → getD (now steps) i 0 < v * 16384) ⌝ }
-    ensures { λ r. ⌜ (r ≤ length (now (steps .entry))) × ((i : ℕ) → i < r → getD (now (steps .entry)) i 0 < v * 16384) × (r < length (now (steps .entry)) → v * 16384 ≤ getD (now (steps .entry)) r 0) ⌝ }
+    requires { ⌜ (e ≤ length (now steps)) × ((i : ℕ) → i < e → getD (now steps) i 0 < v * maxMoves) ⌝ }
+    ensures { λ r. ⌜ (r ≤ length (now (steps .entry))) × ((i : ℕ) → i < r → getD (now (steps .entry)) i 0 < v * maxMoves) × (r < length (now (steps .entry)) → v * maxMoves ≤ getD (now (steps .entry)) r 0) ⌝ }
 {
     let mut i = e;
     while i < steps.len() {

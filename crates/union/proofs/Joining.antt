@@ -1,19 +1,19 @@
 -- Two rows of spans joined, one name more at each turn.
-use mathlib.Core.Path.{_≡_, refl, sym, ap, _∙_}
-use mathlib.Core.Bool.{Bool, true, false, cond}
+use mathlib.Core.Path.{_≡_, refl, ap, _∙_}
+use mathlib.Core.Bool.{Bool, true, false, cond, false≢true}
 use mathlib.Core.Logic.{_⊎_, inl, inr, ⊎-elim}
 use mathlib.Core.List.{List}
 use Prim.Native.Nat.{ℕ, _+_, _≤_, _<_}
 use native.Mathlib.Omega.{arith}
 use lib.ListN.{length, getD, set}
 use lib.Seq.{getD-set-same, getD-set-other}
+use borrow.Author.Count.{below-more}
 use Rattle.model.specs.declared.Order.the-variants.{Less, Equal}
 use Rattle.model.specs.Bytes.{Bytes, compareBytes}
 use Rattle.text.proofs.Order.{bytes-order}
 use Rattle.search.specs.Spans.{spanned, nameBy}
 use Rattle.search.specs.Names.{InOrder}
-use Rattle.search.proofs.Tree.{below}
-use Rattle.union.specs.Names.{Holds, IsNext, NumberedFrom, Joined}
+use Rattle.union.specs.Names.{HoldsNext, IsNext, NumberedFrom, Joined}
 
 -- i names of a row are passed: they have numbers, and every name that has a number comes before those that are left
 pub record Side (b c : Bytes) (xs : List ℕ) (at i : ℕ) (spans numbers : List ℕ) (n : ℕ) : Type 0 where
@@ -61,10 +61,9 @@ module _ (b c : Bytes) (spans : List ℕ) (n s : ℕ) (room : n < length spans) 
   -- what comes after the new name comes after all
   after : (above : (u : ℕ) → u < n → compareBytes (nameBy b c spans u) (spanned b c s) ≡ Less) (y : Bytes) → compareBytes (spanned b c s) y ≡ Less
       → (u : ℕ) → u < n + 1 → compareBytes (nameBy b c more u) y ≡ Less
-  after above y e u l = ⊎-elim
-      (λ (k : u < n). rw (old u k) (bytes-order .trans (nameBy b c spans u) (spanned b c s) y (above u k) e))
-      (λ (k : u ≡ n). rw (k, new) e)
-      (below u n l)
+  after above y e = below-more (λ u. compareBytes (nameBy b c more u) y ≡ Less) n
+      (λ u k. rw (old u k) (bytes-order .trans (nameBy b c spans u) (spanned b c s) y (above u k) e))
+      (rw new e)
 
   module _ (above : (u : ℕ) → u < n → compareBytes (nameBy b c spans u) (spanned b c s) ≡ Less)
       (xs : List ℕ) (rises : InOrder (nameBy b c xs) (length xs)) (at i : ℕ) (numbers numbers′ : List ℕ) (t : Side b c xs at i spans numbers n)
@@ -72,14 +71,13 @@ module _ (b c : Bytes) (spans : List ℕ) (n s : ℕ) (room : n < length spans) 
     kept-numbered : NumberedFrom b c xs at i more numbers′ (n + 1)
     kept-numbered p l = let w = t .numbered p l in rw (kept p l, old (getD numbers (at + p) 0) (w .0)) (omega (arith, w .0), w .1)
 
-    side-next : (held : Bool) → Holds b c xs i s held → (held ≡ true → getD numbers′ (at + i) 0 ≡ n) → Side b c xs at (i + passed held) more numbers′ (n + 1)
+    side-next : (held : Bool) → HoldsNext b c xs i s held → (held ≡ true → getD numbers′ (at + i) 0 ≡ n) → Side b c xs at (i + passed held) more numbers′ (n + 1)
     side-next false h noted = let e : i + 0 ≡ i = omega arith in rw e (record { within = t .within; numbered = kept-numbered; before = λ u l k. after above (nameBy b c xs i) (h k) u l })
     side-next true h noted = record {
       within = omega (arith, h .0);
-      numbered = λ p l. ⊎-elim
-          (λ (k : p < i). kept-numbered p k)
-          (λ (k : p ≡ i). rw (k, noted refl, new) (omega arith, h .1))
-          (below p i l);
+      numbered = below-more (λ p. (getD numbers′ (at + p) 0 < n + 1) × (nameBy b c more (getD numbers′ (at + p) 0) ≡ nameBy b c xs p)) i
+          kept-numbered
+          (rw (noted refl, new) (omega arith, h .1));
       before = λ u l k. after above (nameBy b c xs (i + 1)) (rw (h .1) (rises i (i + 1) (omega arith) k)) u l;
     }
 
@@ -87,19 +85,19 @@ module _ (b c : Bytes) (spans : List ℕ) (n s : ℕ) (room : n < length spans) 
 
 -- of the first row alone, of both, of the second alone
 module _ (b c : Bytes) (xs ys : List ℕ) (i j : ℕ) where
-  pub next-first : i < length xs → Holds b c ys j (getD xs i 0) false → IsNext b c xs ys i j (getD xs i 0) true false
+  pub next-first : i < length xs → HoldsNext b c ys j (getD xs i 0) false → IsNext b c xs ys i j (getD xs i 0) true false
   next-first l h = record { first = (l, refl); second = h; some = inl refl }
 
   pub next-both : i < length xs → j < length ys → compareBytes (nameBy b c xs i) (nameBy b c ys j) ≡ Equal → IsNext b c xs ys i j (getD xs i 0) true true
   next-both l k e = record { first = (l, refl); second = (k, bytes-order .same (nameBy b c xs i) (nameBy b c ys j) e); some = inl refl }
 
-  pub next-second : j < length ys → Holds b c xs i (getD ys j 0) false → IsNext b c xs ys i j (getD ys j 0) false true
+  pub next-second : j < length ys → HoldsNext b c xs i (getD ys j 0) false → IsNext b c xs ys i j (getD ys j 0) false true
   next-second l h = record { first = h; second = (l, refl); some = inr refl }
 
 -- ------------------------------------------------------------------ one turn
 
 noted : (l : List ℕ) (k v : ℕ) (held : Bool) → (held ≡ true → k < length l) → (held ≡ true → getD (cond held (set l k v) l) k 0 ≡ v)
-noted l k v false r e = let z : _≡_ {A = ℕ} 0 1 = cc in absurd (omega arith)
+noted l k v false r e = absurd (false≢true e)
 noted l k v true r e = getD-set-same l k v 0 (r refl)
 
 other : (l : List ℕ) (k v : ℕ) (held : Bool) (q : ℕ) → (held ≡ true → q ≡ k → ⊥) → getD (cond held (set l k v) l) q 0 ≡ getD l q 0
@@ -107,15 +105,15 @@ other l k v false q d = refl
 other l k v true q d = getD-set-other l k q v 0 (d refl)
 
 -- a row that holds the next name is not at its end
-pub held-within : (b c : Bytes) (xs : List ℕ) (i s : ℕ) (held : Bool) → Holds b c xs i s held → held ≡ true → i < length xs
+pub held-within : (b c : Bytes) (xs : List ℕ) (i s : ℕ) (held : Bool) → HoldsNext b c xs i s held → held ≡ true → i < length xs
 held-within b c xs i s true h e = h .0
-held-within b c xs i s false h e = let z : _≡_ {A = ℕ} 0 1 = cc in absurd (omega arith)
+held-within b c xs i s false h e = absurd (false≢true e)
 
 -- the next name comes after those that are passed
-above-held : (b c : Bytes) (xs : List ℕ) (at i : ℕ) (spans numbers : List ℕ) (n s : ℕ) → Side b c xs at i spans numbers n → (held : Bool) → Holds b c xs i s held → held ≡ true
+above-held : (b c : Bytes) (xs : List ℕ) (at i : ℕ) (spans numbers : List ℕ) (n s : ℕ) → Side b c xs at i spans numbers n → (held : Bool) → HoldsNext b c xs i s held → held ≡ true
     → (u : ℕ) → u < n → compareBytes (nameBy b c spans u) (spanned b c s) ≡ Less
 above-held b c xs at i spans numbers n s t true h e u l = rw (h .1) (t .before u l (h .0))
-above-held b c xs at i spans numbers n s t false h e u l = let z : _≡_ {A = ℕ} 0 1 = cc in absurd (omega arith)
+above-held b c xs at i spans numbers n s t false h e u l = absurd (false≢true e)
 
 module _ (b c : Bytes) (xs ys : List ℕ) (rises : InOrder (nameBy b c xs) (length xs)) (rises′ : InOrder (nameBy b c ys) (length ys))
     (spans numbers : List ℕ) (i j n : ℕ) (t : Joining b c xs ys spans numbers i j n) (room : n < length spans) (numbers-room : length xs + length ys ≤ length numbers)
@@ -129,17 +127,16 @@ module _ (b c : Bytes) (xs ys : List ℕ) (rises : InOrder (nameBy b c xs) (leng
   some-passed : (f g : Bool) → (f ≡ true) ⊎ (g ≡ true) → 0 < passed f + passed g
   some-passed true g e = omega arith
   some-passed false true e = omega arith
-  some-passed false false e = ⊎-elim (λ d. absurd (let z : _≡_ {A = ℕ} 0 1 = cc in omega arith)) (λ d. absurd (let z : _≡_ {A = ℕ} 0 1 = cc in omega arith)) e
+  some-passed false false e = absurd (⊎-elim false≢true false≢true e)
 
   pub joining-turn : (numbers₁ numbers₂ : List ℕ) → numbers₁ ≡ cond f (set numbers i n) numbers → numbers₂ ≡ cond g (set numbers₁ (length xs + j) n) numbers₁ → length numbers₁ ≡ length numbers
       → Joining b c xs ys (set spans n s) numbers₂ (i + passed f) (j + passed g) (n + 1) × (0 < passed f + passed g)
   joining-turn numbers₁ numbers₂ e₁ e₂ long = (
     record {
       count = omega (arith, t .count, some-passed f g (next .some));
-      order = λ u w l k. ⊎-elim
-          (λ (o : w < n). let ul : u < n = omega arith in rw (old b c spans n s room u ul, old b c spans n s room w o) (t .order u w l o))
-          (λ (o : w ≡ n). let ul : u < n = omega arith in rw (o, new b c spans n s room, old b c spans n s room u ul) (above u ul))
-          (below w n k);
+      order = λ u w l k. below-more (λ w. u < w → compareBytes (nameBy b c (set spans n s) u) (nameBy b c (set spans n s) w) ≡ Less) n
+          (λ w o m. let ul : u < n = omega arith in rw (old b c spans n s room u ul, old b c spans n s room w o) (t .order u w m o))
+          (λ m. rw (new b c spans n s room, old b c spans n s room u m) (above u m)) w k l;
       first = side-next b c spans n s room above xs rises 0 i numbers numbers₂ (t .first) first-kept f (next .first) first-noted;
       second = side-next b c spans n s room above ys rises′ (length xs) j numbers numbers₂ (t .second) second-kept g (next .second) second-noted;
     },

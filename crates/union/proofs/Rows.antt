@@ -1,7 +1,5 @@
 -- The pairs of a record as a row of steps, and two records' rows as one table.
-use mathlib.Core.Path.{_≡_, refl, sym, ap, _∙_}
-use mathlib.Core.Logic.{_⊎_, inl, inr, ⊎-elim, _↔_}
-use mathlib.Core.Bool.{Bool, true, false}
+use mathlib.Core.Path.{_≡_, sym, ap, _∙_}
 use mathlib.Core.List.{List}
 use mathlib.Core.Option.{some}
 use Prim.Native.Nat.{ℕ, _+_, _*_, _/_, _%_, _≤_, _<_}
@@ -15,15 +13,15 @@ use Rattle.model.specs.Record.{Pair, GraphName, comparePairs}
 use Rattle.model.specs.Layout.{recordLength, pairLength, nameCount, pairCount, tableAt, fromPlace, toPlace, decode}
 use Rattle.model.specs.Questions.{pairsOf}
 use Rattle.model.specs.Path.{kindNumber}
-use Rattle.model.specs.Statements.{Ascending, bySubgraph, byEither}
+use Rattle.model.specs.Statements.{Ascending}
 use Rattle.record.proofs.Laws.{decoded, decode-held}
 use Rattle.record.proofs.Access.{record-pair, record-pairCount, pair-within}
 use Rattle.search.specs.Steps.{maxNodes, maxMoves}
 use Rattle.search.specs.Table.{Written, Merged, Mergeable}
 use Rattle.search.specs.Names.{InOrder, noPair, Row, StepTable}
-use Rattle.search.specs.Related.{ofKind, either}
+use Rattle.search.specs.Related.{ofKind}
 use Rattle.search.proofs.Filling.{first-long, second-long, first-row, second-row}
-use Rattle.search.proofs.StepTables.{row-table, table-same, tables-mergeable, merged-table}
+use Rattle.search.proofs.StepTables.{row-table, tables-mergeable, merged-table}
 use Rattle.union.specs.Steps.{fromAt, toAt, stepAt, Rowable, Numbered, BothNumbered, Records, pairsOfKind, Gatherable, Gathered, byKind}
 
 -- with the table's place as the code has read it

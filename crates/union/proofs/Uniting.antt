@@ -1,13 +1,12 @@
 -- The spans of two records' names, joined, are nodes in the order of the names.
-use mathlib.Core.Path.{_≡_, refl, sym, ap, _∙_}
+use mathlib.Core.Path.{_≡_, ap, _∙_}
 use mathlib.Core.List.{List, []}
 use mathlib.Core.Option.{some}
-use Prim.Native.Nat.{ℕ, _+_, _*_, _≤_, _<_}
+use Prim.Native.Nat.{ℕ, _+_, _≤_, _<_}
 use native.Mathlib.Omega.{arith}
 use lib.ListN.{length, getD, take, drop}
 use lib.Seq.{getD-take, length-take-le}
-use Rattle.model.specs.declared.Order.the-variants.{Less}
-use Rattle.model.specs.Bytes.{Bytes, compareBytes}
+use Rattle.model.specs.Bytes.{Bytes}
 use Rattle.model.specs.Record.{GraphName, names}
 use Rattle.model.specs.Layout.{recordLength, nameCount, bodiesAt, bodyStart, bodyLength, nameAt, decode}
 use Rattle.text.proofs.Order.{bytes-order}
@@ -15,7 +14,7 @@ use Rattle.text.proofs.Places.{ascending-getD}
 use Rattle.record.proofs.Names.{names-ascending}
 use Rattle.record.proofs.Laws.{decode-held}
 use Rattle.record.proofs.Access.{record-count, record-name, name-within}
-use Rattle.search.specs.Spans.{spanLengths, spanned, nameBy}
+use Rattle.search.specs.Spans.{spanned, nameBy}
 use Rattle.search.specs.Table.{Written}
 use Rattle.search.specs.Names.{InOrder}
 use Rattle.search.proofs.Spanning.{span-in-first, span-in-second}
@@ -26,7 +25,7 @@ use Rattle.union.specs.United.{namesOfBoth, Unitable}
 
 -- ------------------------------------------------------------------ one record
 
-pub readable : (b : Bytes) (g : GraphName) → decode b ≡ some g → Readable b
+readable : (b : Bytes) (g : GraphName) → decode b ≡ some g → Readable b
 readable b g d = record { long = decode-held b g d .long; few = decode-held b g d .count; within = name-within b g d }
 
 rise : (b : Bytes) (g : GraphName) → decode b ≡ some g → InOrder (nameAt b) (nameCount b)

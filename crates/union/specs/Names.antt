@@ -24,14 +24,14 @@ pub record Readable (b : Bytes) : Type 0 where
   pub within : (i : ℕ) → i < nameCount b → (bodiesAt b + bodyStart b i + bodyLength b i ≤ recordLength) × (bodyLength b i ≤ maxNameBytes)
 
 -- whether a row of spans, of whose names i are passed, holds the name of span s; if not, its next name comes later
-abbrev pub Holds : Bytes → Bytes → List ℕ → ℕ → ℕ → Bool → Type 0
-Holds b c xs i s true = (i < length xs) × (spanned b c s ≡ nameBy b c xs i)
-Holds b c xs i s false = i < length xs → compareBytes (spanned b c s) (nameBy b c xs i) ≡ Less
+abbrev pub HoldsNext : Bytes → Bytes → List ℕ → ℕ → ℕ → Bool → Type 0
+HoldsNext b c xs i s true = (i < length xs) × (spanned b c s ≡ nameBy b c xs i)
+HoldsNext b c xs i s false = i < length xs → compareBytes (spanned b c s) (nameBy b c xs i) ≡ Less
 
 -- s is the span of the next name, and which rows hold it
 pub record IsNext (b c : Bytes) (xs ys : List ℕ) (i j s : ℕ) (in-first in-second : Bool) : Type 0 where
-  pub first : Holds b c xs i s in-first
-  pub second : Holds b c ys j s in-second
+  pub first : HoldsNext b c xs i s in-first
+  pub second : HoldsNext b c ys j s in-second
   pub some : (in-first ≡ true) ⊎ (in-second ≡ true)
 
 -- two rows of spans, each ascending by name, with room for both

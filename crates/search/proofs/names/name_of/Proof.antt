@@ -9,9 +9,6 @@ use Rattle.search.specs.Spans.{spanLengths}
 use Rattle.search.proofs.Spanning.{spanned-first, spanned-second, part-short}
 use Rattle.search.proofs.names.name_of.Statement.{statement}
 use Rattle.search.proofs.names.name_of.Tie as tie
-use Rattle.search.proofs.names.name_of.Reads as reads
-use Rattle.search.proofs.names.name_of.Lts as lts
-use Rattle.text.proofs.part.Reads as part-reads
 
 cast-start : tie.Need-cast-start
 cast-start c = search needs

@@ -3,16 +3,10 @@ use mathlib.Core.Path.{_≡_, refl}
 use Prim.Native.Nat.{_+_, _-_, _<_}
 use native.Mathlib.Omega.{arith}
 use lib.ListN.{length, set, length-set}
-use borrow.Author.Needs.{needs}
 use denote.Ref.{now}
 use Rattle.search.proofs.Merging.{Merging, merging-start, merging-turn, merging-end}
 use Rattle.search.proofs.table.merge.Statement.{statement}
 use Rattle.search.proofs.table.merge.Tie as tie
-use Rattle.search.proofs.table.merge.Reads as reads
-use Rattle.search.proofs.table.merge.Lts as lts
-use Rattle.search.proofs.table.head.Reads as head-reads
-use Rattle.search.proofs.table.least.Reads as least-reads
-use Rattle.search.proofs.table.onward.Reads as onward-reads
 
 abbrev Inv-loop : tie.InvT-loop
 Inv-loop a b out₀ end i₀ j₀ n₀ out i j n = (length out ≡ length out₀) × Merging a b out i j n

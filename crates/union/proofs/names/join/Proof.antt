@@ -8,10 +8,6 @@ use denote.Ref.{now}
 use Rattle.union.proofs.Joining.{Joining, joining-start, joining-turn, joining-end, passed-most, held-within}
 use Rattle.union.proofs.names.join.Statement.{statement}
 use Rattle.union.proofs.names.join.Tie as tie
-use Rattle.union.proofs.names.join.Reads as reads
-use Rattle.union.proofs.names.join.Lts as lts
-use Rattle.union.proofs.names.next_name.Reads as next-name-reads
-use Rattle.union.proofs.names.number_name.Reads as number-name-reads
 
 abbrev Inv-loop : tie.InvT-loop
 Inv-loop first second xs ys spans₀ numbers₀ m end i₀ j₀ v₀ spans numbers i j v =
