@@ -1,14 +1,14 @@
 -- Two ascending tables as one, one number at a time.
-use mathlib.Core.Path.{_≡_, sym, ap, _∙_}
+use mathlib.Core.Path.{_≡_, refl, sym, ap, _∙_}
 use mathlib.Core.Logic.{_⊎_, inl, inr, ⊎-elim}
 use mathlib.Core.List.{List}
-use Prim.Native.Nat.{ℕ, _+_, _≤_, _<_}
+use Prim.Native.Nat.{ℕ, _+_, _-_, _≤_, _<_}
 use native.Mathlib.Nat.{eq-or-lt-of-le}
 use native.Mathlib.Decide.{decLt}
 use native.Mathlib.Omega.{arith}
 use lib.ListN.{length, getD, set}
 use lib.Seq.{getD-set-same, getD-set-other}
-use Rattle.search.specs.Table.{noStep, Rises, Holds, Head, Mergeable, Merged}
+use Rattle.search.specs.Table.{Rises, Holds, Written, restOf, Merged}
 use Rattle.search.proofs.Tree.{below}
 
 -- i of the numbers of a and j of b are passed, and make n numbers
@@ -36,17 +36,25 @@ merging-start a b out = record {
   second = λ x h. absurd (omega (arith, h .1));
 }
 
-pub merging-end : (a b out : List ℕ) (i j n : ℕ) → Merging a b out i j n → length a + length b ≤ i + j → Merged a b out n
-merging-end a b out i j n m over =
-    let e : i ≡ length a = omega (arith, m .i-in, m .j-in) in
-    let f : j ≡ length b = omega (arith, m .i-in, m .j-in) in
-    record {
-      count = omega (arith, m .count);
-      rises = m .rises;
-      either = rw (← e, ← f) (m .either);
-      first = rw (← e) (m .first);
-      second = rw (← f) (m .second);
-    }
+-- both are passed whole
+pub merging-end : (a b out : List ℕ) (n : ℕ) → Merging a b out (length a) (length b) n → Merged a b out n
+merging-end a b out n m = record { count = m .count; rises = m .rises; either = m .either; first = m .first; second = m .second }
+
+-- the other way round
+pub merging-turned : (a b out : List ℕ) (i j n : ℕ) → Merging a b out i j n → Merging b a out j i n
+merging-turned a b out i j n m = record {
+  i-in = m .j-in;
+  j-in = m .i-in;
+  count = omega (arith, m .count);
+  rises = m .rises;
+  low-a = m .low-b;
+  low-b = m .low-a;
+  either = λ x h. ⊎-elim inr inl (m .either x h);
+  first = m .second;
+  second = m .first;
+}
+
+-- ------------------------------------------------------------------ one number more
 
 -- numbers from place i up to i′ are all v
 abbrev Passes : List ℕ → ℕ → ℕ → ℕ → Type 0
@@ -95,89 +103,80 @@ module _ (a b out : List ℕ) (i j n : ℕ) (m : Merging a b out i j n) (room : 
       keeps x f g (yes o) = let h = f o in let l : h .0 < n = h .1 in (h .0, omega arith, old (h .0) l ∙ h .2)
       keeps x f g (no o) = (n, omega arith, new ∙ sym (g (omega arith)))
 
--- how far a table moves on, with x at hand: by one where x is the next number v, and v is no greater
-module _ (s : List ℕ) (rises : Rises s (length s)) (k x : ℕ) (within : k ≤ length s) (head : Head s k x) (v r : ℕ) (le : v ≤ x) (some : v < noStep)
-    (taken : x ≤ v → r ≡ 1) (left : v < x → r ≡ 0) where
-  more-left : x < noStep → k < length s
-  more-left l = go (decLt k (length s))
+module _ (s : List ℕ) (rises : Rises s (length s)) (k : ℕ) (within : k < length s) where
+  -- the number at hand is passed
+  passes : Passes s k (k + 1) (getD s k 0)
+  passes = (omega arith, omega arith, λ h o w. let y : h ≡ k = omega arith in ap (λ (j : ℕ). getD s j 0) y, λ h o w. rises k h (omega arith) w)
+
+  -- it comes later
+  stays : (v : ℕ) → v < getD s k 0 → Passes s k k v
+  stays v l = (
+    omega arith,
+    omega arith,
+    λ h o w. absurd (omega arith),
+    λ h o w. ⊎-elim
+        (λ (e : k ≡ h). let y : getD s k 0 ≡ getD s h 0 = ap (λ (j : ℕ). getD s j 0) e in omega arith)
+        (λ (c : k < h). omega (arith, rises k h c w))
+        (eq-or-lt-of-le o),
+  )
+
+-- the next number is that of the first, or both have it
+module _ (a b out : List ℕ) (i j n : ℕ) (m : Merging a b out i j n) (rises-a : Rises a (length a)) (rises-b : Rises b (length b)) (room : n < length out) (more-a : i < length a) (more-b : j < length b) where
+  next-of-first : (j′ : ℕ) → j ≤ j′ → Passes b j j′ (getD a i 0) → Merging a b (set out n (getD a i 0)) (i + 1) j′ (n + 1)
+  next-of-first j′ l p =
+      push a b out i j n m room (getD a i 0) (i + 1) j′ (passes a rises-a i more-a) p (omega (arith, m .count)) (inl (i, omega arith, refl)) (λ k o. m .low-a k i o (omega arith) more-a)
+
+  pub take-first : getD a i 0 < getD b j 0 → Merging a b (set out n (getD a i 0)) (i + 1) j (n + 1)
+  take-first l = next-of-first j (omega arith) (stays b rises-b j more-b (getD a i 0) l)
+
+  pub take-both : getD a i 0 ≡ getD b j 0 → Merging a b (set out n (getD a i 0)) (i + 1) (j + 1) (n + 1)
+  take-both e = next-of-first (j + 1) (omega arith) (rw e (passes b rises-b j more-b))
+
+-- ------------------------------------------------------------------ the rest of one
+
+-- where one of the two is passed whole, the rest of the first goes behind what there is
+module _ (a b out after : List ℕ) (i j n : ℕ) (m : Merging a b out i j n) (rises-a : Rises a (length a)) (over : (i ≡ length a) ⊎ (j ≡ length b))
+    (w : Written out after n (length a - i) (restOf a i)) where
+  -- a place behind is one of the rest
+  behind : (k : ℕ) → n ≤ k → k < n + (length a - i) → (i + (k - n) < length a) × (getD after k 0 ≡ getD a (i + (k - n)) 0)
+  behind k l h = let e : n + (k - n) ≡ k = omega arith in (omega (arith, m .i-in), rw e at (w .filled (k - n) (omega arith)))
+
+  pub merging-rest : Merging a b after (length a) j (n + (length a - i))
+  merging-rest = record {
+    i-in = omega arith;
+    j-in = m .j-in;
+    count = omega (arith, m .count, m .i-in);
+    rises = λ k l o h. rising k l o h (decLt k n) (decLt l n);
+    low-a = λ k l h o c. absurd (omega arith);
+    low-b = λ k l h o c. low k l h o c (decLt k n);
+    either = λ x h. back x h (decLt (h .0) n);
+    first = λ x h. there x h (decLt (h .0) i);
+    second = λ x h. kept x (m .second x h);
+  }
     where
-      go : Dec (k < length s) → k < length s
-      go (yes o) = o
-      go (no o) = absurd (omega (arith, head .1 (omega arith)))
+      rising : (k l : ℕ) → k < l → l < n + (length a - i) → Dec (k < n) → Dec (l < n) → getD after k 0 < getD after l 0
+      rising k l o h (yes c) (yes d) = rw (w .kept k c, w .kept l d) (m .rises k l o d)
+      rising k l o h (yes c) (no d) = let f = behind l (omega arith) h in rw (w .kept k c, f .1) (m .low-a k (i + (l - n)) c (omega arith) (f .0))
+      rising k l o h (no c) d =
+          let e = behind k (omega arith) (omega arith) in
+          let f = behind l (omega arith) h in
+          rw (e .1, f .1) (rises-a (i + (k - n)) (i + (l - n)) (omega arith) (f .0))
 
-  none : v < x → k < length s → v < getD s k 0
-  none l o = omega (arith, head .0 o)
+      low : (k l : ℕ) → k < n + (length a - i) → j ≤ l → l < length b → Dec (k < n) → getD after k 0 < getD b l 0
+      low k l h o c (yes d) = rw (w .kept k d) (m .low-b k l d o c)
+      low k l h o c (no d) = absurd (⊎-elim (λ (e : i ≡ length a). omega arith) (λ (e : j ≡ length b). omega arith) over)
 
-  passes : Passes s k (k + r) v
-  passes = go (decLt v x)
-    where
-      go : Dec (v < x) → Passes s k (k + r) v
-      go (yes l) =
-          let z = left l in (
-            omega arith,
-            omega arith,
-            λ h o w. absurd (omega arith),
-            λ h o w. ⊎-elim
-                (λ (e : k ≡ h). let y : getD s k 0 ≡ getD s h 0 = ap (λ (j : ℕ). getD s j 0) e in omega (arith, none l (omega arith)))
-                (λ (c : k < h). omega (arith, rises k h c w, none l (omega arith)))
-                (eq-or-lt-of-le (let y : k ≤ h = omega arith in y)),
-          )
-      go (no l) =
-          let z = taken (omega arith) in
-          let i : k < length s = more-left (omega arith) in
-          let e = head .0 i in (
-            omega arith,
-            omega arith,
-            λ h o w. let y : h ≡ k = omega arith in ap (λ (j : ℕ). getD s j 0) y ∙ (let t : getD s k 0 ≡ v = omega arith in t),
-            λ h o w. omega (arith, rises k h (omega arith) w),
-          )
+      kept : (x : ℕ) → Holds out n x → Holds after (n + (length a - i)) x
+      kept x h = let l : h .0 < n = h .1 in (h .0, omega arith, w .kept (h .0) l ∙ h .2)
 
-  -- where x is the next it stands in the table, and what is below the rest of the table is below it
-  holds : v ≡ x → Holds s (k + r) v × ((y : ℕ) → (k < length s → y < getD s k 0) → y < v)
-  holds e =
-      let z = taken (omega arith) in
-      let i = more-left (omega arith) in
-      ((k, omega arith, sym (head .0 i) ∙ sym e), λ y below. omega (arith, below i, head .0 i))
+      back : (x : ℕ) (h : Holds after (n + (length a - i)) x) → Dec (h .0 < n) → Holds a (length a) x ⊎ Holds b j x
+      back x h (yes c) = ⊎-elim (λ (f : Holds a i x). inl (f .0, omega (arith, f .1, m .i-in), f .2)) inr (m .either x (h .0, c, sym (w .kept (h .0) c) ∙ h .2))
+      back x h (no c) = let f = behind (h .0) (omega arith) (h .1) in inl (i + (h .0 - n), f .0, sym (f .1) ∙ h .2)
 
--- one number more
-pub merging-turn : (a b out₀ out : List ℕ) (i j n : ℕ) → Merging a b out i j n → Mergeable a b out₀ → n < length out → i + j < length a + length b
-    → (x y : ℕ) → Head a i x → Head b j y → (v : ℕ) → (x ≤ y → v ≡ x) × (y ≤ x → v ≡ y)
-    → (r : ℕ) → (x ≤ y → r ≡ 1) × (y < x → r ≡ 0) → (t : ℕ) → (y ≤ x → t ≡ 1) × (x < y → t ≡ 0)
-    → Merging a b (set out n v) (i + r) (j + t) (n + 1) × (0 < r + t)
-merging-turn a b out₀ out i j n m ready room more x y hx hy v hv r hr t ht = go (decLt x y) (decLt y x)
-  where
-    small : v < noStep
-    small = first (decLt i (length a)) (decLt j (length b)) (decLt x y)
-      where
-        first : Dec (i < length a) → Dec (j < length b) → Dec (x < y) → v < noStep
-        first (yes o) d (yes l) = omega (arith, hx .0 o, hv .0 (omega arith), ready .first-small i o)
-        first (yes o) d (no l) = omega (arith, hx .0 o, hv .1 (omega arith), ready .first-small i o)
-        first (no o) (yes w) (yes l) = omega (arith, hy .0 w, hv .0 (omega arith), ready .second-small j w)
-        first (no o) (yes w) (no l) = omega (arith, hy .0 w, hv .1 (omega arith), ready .second-small j w)
-        first (no o) (no w) l = absurd (omega arith)
-
-    turn : v ≤ x → v ≤ y → (x ≤ v → x ≤ y) → (v < x → y < x) → (y ≤ v → y ≤ x) → (v < y → x < y) → (v ≡ x) ⊎ (v ≡ y) → 0 < r + t
-        → Merging a b (set out n v) (i + r) (j + t) (n + 1) × (0 < r + t)
-    turn le le′ c d c′ d′ from some =
-        let p = passes a (ready .first-rises) i x (m .i-in) hx v r le small (λ o. hr .0 (c o)) (λ o. hr .1 (d o)) in
-        let q = passes b (ready .second-rises) j y (m .j-in) hy v t le′ small (λ o. ht .0 (c′ o)) (λ o. ht .1 (d′ o)) in
-        let f = holds a (ready .first-rises) i x (m .i-in) hx v r le small (λ o. hr .0 (c o)) (λ o. hr .1 (d o)) in
-        let g = holds b (ready .second-rises) j y (m .j-in) hy v t le′ small (λ o. ht .0 (c′ o)) (λ o. ht .1 (d′ o)) in (
-          push a b out i j n m room v (i + r) (j + t) p q (omega (arith, m .count)) (⊎-elim (λ (e : v ≡ x). inl (f e .0)) (λ (e : v ≡ y). inr (g e .0)) from)
-              (λ k o. ⊎-elim
-              (λ (e : v ≡ x). f e .1 (getD out k 0) (λ w. m .low-a k i o (omega arith) w))
-              (λ (e : v ≡ y). g e .1 (getD out k 0) (λ w. m .low-b k j o (omega arith) w))
-              from),
-          some,
-        )
-
-    go : Dec (x < y) → Dec (y < x) → Merging a b (set out n v) (i + r) (j + t) (n + 1) × (0 < r + t)
-    go (yes l) d =
-        let e = hv .0 (omega arith) in
-        turn (omega arith) (omega arith) (λ o. omega arith) (λ o. omega arith) (λ o. omega arith) (λ o. l) (inl e) (omega (arith, hr .0 (omega arith)))
-    go (no l) (yes o) =
-        let e = hv .1 (omega arith) in
-        turn (omega arith) (omega arith) (λ w. omega arith) (λ w. o) (λ w. omega arith) (λ w. omega arith) (inr e) (omega (arith, ht .0 (omega arith)))
-    go (no l) (no o) =
-        let e = hv .0 (omega arith) in
-        turn (omega arith) (omega arith) (λ w. omega arith) (λ w. omega arith) (λ w. omega arith) (λ w. omega arith) (inl e) (omega (arith, hr .0 (omega arith)))
+      there : (x : ℕ) (h : Holds a (length a) x) → Dec (h .0 < i) → Holds after (n + (length a - i)) x
+      there x h (yes c) = kept x (m .first x (h .0, c, h .2))
+      there x h (no c) =
+          let p = h .0 in
+          let l : p < length a = h .1 in
+          let e : i + (p - i) ≡ p = omega arith in
+          (n + (p - i), omega arith, w .filled (p - i) (omega arith) ∙ ap (λ (q : ℕ). getD a q 0) e ∙ h .2)

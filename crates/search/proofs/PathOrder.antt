@@ -1,17 +1,11 @@
--- The order of paths: strict, total on paths with as many steps, and kept by one step more at the end. So there is one best path.
+-- The order of paths: it passes on, and one step more at the end keeps it; and paths with one step more.
 use mathlib.Core.Path.{_≡_, refl, sym, _∙_}
 use mathlib.Core.Logic.{inl, inr}
 use mathlib.Core.List.{List, [], _∷_, _++_, append-nil}
 use Prim.Native.Nat.{ℕ, _%_, _<_}
 use native.Mathlib.Omega.{arith}
 use lib.ListN.{length-append}
-use Rattle.search.specs.Steps.{maxNodes, Moves, IsPath, Before, Earlier, NotLater, Best}
-
-before-irrefl : (ms : List ℕ) → Before ms ms → ⊥
-unfolding Before
-before-irrefl [] h = h
-before-irrefl (m ∷ ms) (inl h) = omega arith
-before-irrefl (m ∷ ms) (inr h) = before-irrefl ms (h .1)
+use Rattle.search.specs.Steps.{maxNodes, Moves, IsPath, Before, Earlier, NotLater}
 
 before-trans : (ms ks ls : List ℕ) → Before ms ks → Before ks ls → Before ms ls
 unfolding Before
@@ -25,10 +19,6 @@ before-trans (m ∷ ms) (k ∷ ks) (l ∷ ls) (inr h) (inr i) = inr (h .0 ∙ i 
 
 -- ------------------------------------------------------------------ by length, then in that order
 
-earlier-irrefl : (ms : List ℕ) → Earlier ms ms → ⊥
-earlier-irrefl ms (inl h) = omega arith
-earlier-irrefl ms (inr h) = before-irrefl ms (h .1)
-
 pub earlier-trans : (ms ks ls : List ℕ) → Earlier ms ks → Earlier ks ls → Earlier ms ls
 earlier-trans ms ks ls (inl h) (inl i) = inl (omega arith)
 earlier-trans ms ks ls (inl h) (inr i) = inl (omega arith)
@@ -39,15 +29,6 @@ pub not-later-trans : (ms ks ls : List ℕ) → NotLater ms ks → NotLater ks l
 not-later-trans ms ks ls (inl e) i = rw e at i
 not-later-trans ms ks ls (inr h) (inl e) = inr (rw e h)
 not-later-trans ms ks ls (inr h) (inr i) = inr (earlier-trans ms ks ls h i)
-
-not-later-antisym : (ms ks : List ℕ) → NotLater ms ks → NotLater ks ms → ms ≡ ks
-not-later-antisym ms ks (inl e) i = sym e
-not-later-antisym ms ks (inr h) (inl e) = e
-not-later-antisym ms ks (inr h) (inr i) = absurd (earlier-irrefl ms (earlier-trans ms ks ms h i))
-
--- the best path is one only
-pub best-unique : (R : Moves) (a b : ℕ) (ms ks : List ℕ) → Best R a ms b → Best R a ks b → ms ≡ ks
-best-unique R a b ms ks p q = not-later-antisym ms ks (p .first ks (q .path)) (q .first ms (p .path))
 
 -- ------------------------------------------------------------------ one step more at the end
 

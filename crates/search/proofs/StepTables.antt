@@ -11,7 +11,7 @@ use Rattle.model.specs.Bytes.{Bytes}
 use Rattle.model.specs.Record.{Pair, comparePairs}
 use Rattle.model.specs.Statements.{Ascending, Relation}
 use Rattle.search.specs.Steps.{maxNodes, maxMoves, leads}
-use Rattle.search.specs.Table.{noStep, Rises, Holds, Mergeable, Merged}
+use Rattle.search.specs.Table.{Rises, Holds, Mergeable, Merged}
 use Rattle.search.specs.Promise.{Unindexed}
 use Rattle.search.specs.Names.{kindOf, InOrder, StepTable, Row}
 use Rattle.search.specs.Related.{ofKind, either}
@@ -36,16 +36,11 @@ table-same steps n name R S t same = record {
   };
 }
 
--- each step leads between nodes
-module _ (steps : List ℕ) (n : ℕ) (name : ℕ → Bytes) (R : Relation) (t : StepTable steps n name R) (e : ℕ) (l : e < length steps) where
-  inside : (getD steps e 0 / maxMoves < n) × (getD steps e 0 % maxMoves % maxNodes < n)
-  inside = t .stands .inside (getD steps e 0 / maxMoves) (getD steps e 0 % maxMoves) (omega arith, (e, l, omega arith))
-
-  step-small : getD steps e 0 < noStep
-  step-small = omega (arith, t .few, inside .0)
-
-  step-node : getD steps e 0 % maxNodes < n
-  step-node = omega (arith, inside .1)
+-- each step leads to a node
+step-node : (steps : List ℕ) (n : ℕ) (name : ℕ → Bytes) (R : Relation) → StepTable steps n name R → (e : ℕ) → e < length steps → getD steps e 0 % maxNodes < n
+step-node steps n name R t e l =
+    let i = t .stands .inside (getD steps e 0 / maxMoves) (getD steps e 0 % maxMoves) (omega arith, (e, l, omega arith)) in
+    omega (arith, i .1)
 
 pub searchable : (steps starts : List ℕ) (from : ℕ) (q places : List ℕ) (name : ℕ → Bytes) (R : Relation) → StepTable steps (length places) name R
     → length steps < 65536 → length starts ≡ length places + 1 → length q ≡ length places → from < length places → Unindexed steps starts from q places
@@ -91,8 +86,6 @@ module _ (a b : List ℕ) (n : ℕ) (name : ℕ → Bytes) (R S : Relation) (s :
   tables-mergeable = record {
     first-rises = s .rises;
     second-rises = t .rises;
-    first-small = step-small a n name R s;
-    second-small = step-small b n name S t;
     room = room;
   }
 

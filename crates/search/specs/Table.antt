@@ -20,20 +20,14 @@ pub record Written (before after : List ℕ) (at n : ℕ) (f : ℕ → ℕ) : Ty
   pub filled : (p : ℕ) → p < n → getD after (at + p) 0 ≡ f p
   pub kept : (q : ℕ) → q < at → getD after q 0 ≡ getD before q 0
 
--- greater than every step
-abbrev pub noStep : ℕ
-noStep = 4294967295
+-- the numbers of a table from place i on
+abbrev pub restOf : List ℕ → ℕ → ℕ → ℕ
+restOf s i p = getD s (i + p) 0
 
--- x is the number at place i, or past the end `noStep`
-abbrev pub Head : List ℕ → ℕ → ℕ → Type 0
-Head s i x = (i < length s → x ≡ getD s i 0) × (length s ≤ i → x ≡ noStep)
-
--- two ascending tables of steps, with room for both
+-- two ascending tables, with room for both
 pub record Mergeable (a b out : List ℕ) : Type 0 where
   pub first-rises : Rises a (length a)
   pub second-rises : Rises b (length b)
-  pub first-small : (i : ℕ) → i < length a → getD a i 0 < noStep
-  pub second-small : (i : ℕ) → i < length b → getD b i 0 < noStep
   pub room : length a + length b ≤ length out
 
 -- the first n of out ascend and are the numbers of a and b

@@ -1,8 +1,8 @@
 // Breadth-first search over one ascending table of steps, lent and of any size, and the names that its nodes stand for. Nodes are
 // numbers below 8,192; a step is one number, from * 16,384 + kind * 8,192 + to, with kind 0 for a subgraph step and 1 for a translation.
 //
-// `specs/Promise.antt` says what a search promises. `proofs/Answer.antt` has what follows for a question, and `proofs/Local.antt` the laws
-// of the right answer and of locality, over relations alone.
+// `specs/Promise.antt` says what a search promises, and `proofs/Answer.antt` what follows for the target. `proofs/Local.antt` and
+// `proofs/Between.antt` have the laws of the right answer and of locality, over relations alone.
 mod breadth;
 mod names;
 mod path;

@@ -1,42 +1,23 @@
 // Tables of steps: two ascending ones as one, and where the steps of each node begin.
 use crate::MAX_MOVES;
 ghost use mathlib.Core.Path.{_≡_};
-ghost use Prim.Native.Nat.{ℕ, _+_, _*_, _≤_, _<_};
+ghost use Prim.Native.Nat.{ℕ, _+_, _-_, _*_, _≤_, _<_};
 ghost use lib.ListN.{length, getD, take, drop};
 ghost use Rattle.search.specs.Steps.{maxMoves};
-ghost use Rattle.search.specs.Table.{Rises, Head, Mergeable, Merged, Indexed};
+ghost use Rattle.search.specs.Table.{Rises, Written, restOf, Mergeable, Merged, Indexed};
 
-// Greater than every step.
-const NO_STEP: u32 = 4294967295;
-
-// The number at a place, or past the end one that is greater than every step.
-fn head(s: &[u32], i: usize) -> u32
-    ensures { λ r. ⌜ Head (now (s .entry)) i r ⌝ }
+// Writes the rest of a table, from place i on, behind the first n numbers of another; gives how many numbers that makes.
+fn append_rest(s: &[u32], i: usize, out: &mut [u32], n: usize) -> usize
+    requires { ⌜ (i ≤ length (now s)) × (n + (length (now s) - i) ≤ length (now out)) ⌝ }
+    ensures { λ r. ⌜ Written (now (out .entry)) (now (out .exit)) n (length (now (s .entry)) - i) (restOf (now (s .entry)) i) × (r ≡ n + (length (now (s .entry)) - i)) ⌝ }
 {
-    if i < s.len() {
-        return s[i];
+    let count = s.len() - i;
+    let mut p = 0;
+    while p < count {
+        out[n + p] = s[i + p];
+        p += 1;
     }
-    NO_STEP
-}
-
-// The smaller of two numbers.
-fn least(x: u32, y: u32) -> u32
-    ensures { λ r. ⌜ (x ≤ y → r ≡ x) × (y ≤ x → r ≡ y) ⌝ }
-{
-    if x < y {
-        return x;
-    }
-    y
-}
-
-// How far a table moves on whose number at hand is x, beside another's y: by one where x is taken.
-fn onward(x: u32, y: u32) -> usize
-    ensures { λ r. ⌜ (r ≤ 1) × (x ≤ y → r ≡ 1) × (y < x → r ≡ 0) ⌝ }
-{
-    if x <= y {
-        return 1;
-    }
-    0
+    n + count
 }
 
 // Two ascending tables as one, what stands in both once; gives how many numbers that makes.
@@ -44,19 +25,29 @@ fn merge(a: &[u32], b: &[u32], out: &mut [u32]) -> usize
     requires { ⌜ Mergeable (now a) (now b) (now out) ⌝ }
     ensures { λ r. ⌜ Merged (now (a .entry)) (now (b .entry)) (now (out .exit)) r ⌝ }
 {
-    let end = a.len() + b.len();
     let mut i = 0;
     let mut j = 0;
     let mut n = 0;
-    while i + j < end {
-        let x = head(a, i);
-        let y = head(b, j);
-        out[n] = least(x, y);
-        i += onward(x, y);
-        j += onward(y, x);
-        n += 1;
+    while i < a.len() && j < b.len() {
+        let x = a[i];
+        let y = b[j];
+        if x < y {
+            out[n] = x;
+            i += 1;
+            n += 1;
+        } else if y < x {
+            out[n] = y;
+            j += 1;
+            n += 1;
+        } else {
+            out[n] = x;
+            i += 1;
+            j += 1;
+            n += 1;
+        }
     }
-    n
+    let m = append_rest(a, i, out, n);
+    append_rest(b, j, out, m)
 }
 
 // The ascending row of the first m numbers and the one behind it as one, what stands in both once; gives how many numbers that makes.
