@@ -1,10 +1,10 @@
 /* The functions of libgraph_name.a. docs/FORMAT.md has the formats byte for byte; bindings/c/example.c uses the functions.
  *
  * A byte slice is a pointer and then a length. No pointer is null, also where the length is 0, and a buffer that is written overlaps no other of the call; nothing
- * else is asked. The result is one of the numbers below, 0 for done. A number behind a pointer is written on 0 only, except line, start and
- * length of the two readings, which are always written. Bytes of an output past what is written stay. A flag that comes in is false at 0 and
- * true at every other value; a flag that goes out is 1 or 0. A record is a buffer of GRAPH_NAME_RECORD_BYTES bytes; the places given by the
- * accessors are counted from its first byte. */
+ * else is asked. The result is one of the numbers below, 0 for done. A number behind a pointer is written on 0 only, except line, start,
+ * length and offset of the two readings, which are always written, and are 0 on 0. Bytes of an output past what is written stay. A flag
+ * that comes in is false at 0 and true at every other value; a flag that goes out is 1 or 0. A record is a buffer of
+ * GRAPH_NAME_RECORD_BYTES bytes; the places given by the accessors are counted from its first byte. */
 #ifndef GRAPH_NAME_H
 #define GRAPH_NAME_H
 
@@ -62,17 +62,21 @@ enum graph_name_kind { GRAPH_NAME_SUBGRAPH = 0, GRAPH_NAME_TRANSLATION = 1, GRAP
 uint32_t graph_name_new(const uint8_t *name, size_t name_len, uint8_t *record, size_t record_len);
 
 /* Reads a text of header lines, which byte 10 ends. A refusal leaves the empty record and gives its line, from 1, and the place in the text of
- * the quoted part: none (0 and 0) for 1 and 11 to 14, the first field for 2, the field for 3 to 5, the whole line for 6 to 8. 15 leaves
- * the buffer, and its line is 0. */
+ * the quoted part: none (0 and 0) for 1 and 11 to 14, the first field for 2, the field for 3 to 5, the whole line for 6 to 8. It also gives
+ * an offset, the byte of the text, from 0, where the fault lies: for 1 the line's first, for 2 to 8 that of the quoted part, for 11 to 14
+ * that of the field; of an @ line this is the second field, also where the third is the long one. 15 leaves the buffer, and its line and
+ * its offset are 0. */
 uint32_t graph_name_from_header_lines(const uint8_t *text, size_t text_len, uint8_t *record, size_t record_len,
-                                      uint64_t *line, uint64_t *start, uint64_t *length);
+                                      uint64_t *line, uint64_t *start, uint64_t *length, uint64_t *offset);
 
 /* Reads the three tag values; the bytes of one whose flag is 0 are not looked at. A refusal gives line 0 and the place in its tag's value of
- * the quoted part: the relation for 9 and 10, none for the others. */
+ * the quoted part: the relation for 9 and 10, none for the others. Its offset is the byte of that value, from 0, where the relation begins,
+ * and 0 for a long own name and for 15. 11 to 14 do not say in which tag the offset counts. */
 uint32_t graph_name_from_tags(uint32_t has_name, const uint8_t *name, size_t name_len,
                               uint32_t has_subgraph, const uint8_t *subgraph, size_t subgraph_len,
                               uint32_t has_translation, const uint8_t *translation, size_t translation_len,
-                              uint8_t *record, size_t record_len, uint64_t *line, uint64_t *start, uint64_t *length);
+                              uint8_t *record, size_t record_len,
+                              uint64_t *line, uint64_t *start, uint64_t *length, uint64_t *offset);
 
 /* The text of a reading refusal, without a line end: the number, the line and the quoted part are those that the reading gave. It is empty
  * for numbers other than 1 to 10. */

@@ -15,9 +15,9 @@ fn output() -> Vec<u8> {
 fn reading(input: &(Vec<u8>, Vec<String>)) -> Times {
     let (text, lines) = input;
     let mut record = vec![0; ours::RECORD_BYTES];
-    let [mut line, mut start, mut length] = [0; 3];
+    let [mut line, mut start, mut length, mut offset] = [0; 4];
     least(
-        || timed(|| ours::from_header_lines(text, &mut record, &mut line, &mut start, &mut length)),
+        || timed(|| ours::from_header_lines(text, &mut record, &mut line, &mut start, &mut length, &mut offset)),
         || timed(|| GraphName::from_header_lines(lines)),
     )
 }
@@ -39,11 +39,11 @@ pub fn reading_tags(sample: &Sample) -> Times {
     let [name, subgraph, translation] =
         ["pggname", "subgraph", "translation"].map(|key| tags.get(key).expect("a tag of each kind").as_bytes());
     let mut record = vec![0; ours::RECORD_BYTES];
-    let [mut line, mut start, mut length] = [0; 3];
-    least(
-        || timed(|| ours::from_tags(1, name, 1, subgraph, 1, translation, &mut record, &mut line, &mut start, &mut length)),
-        || timed(|| GraphName::from_tags(&tags)),
-    )
+    let [mut line, mut start, mut length, mut offset] = [0; 4];
+    let mut read = || {
+        ours::from_tags(1, name, 1, subgraph, 1, translation, &mut record, &mut line, &mut start, &mut length, &mut offset)
+    };
+    least(|| timed(&mut read), || timed(|| GraphName::from_tags(&tags)))
 }
 
 /// Writing `H` lines.

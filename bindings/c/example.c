@@ -31,20 +31,21 @@ static void print(const uint8_t *bytes, uint64_t length)
     fwrite(bytes, 1, length, stdout);
 }
 
-/* Reads header lines into a record, and prints a refusal: its number, its line, and the error message with the quoted part of the text. */
+/* Reads header lines into a record, and prints a refusal: its number, its line, its offset in the text, from 0, and the error message with
+ * the quoted part of the text. */
 static void read_lines(const char *text, uint8_t *record)
 {
     const uint8_t *bytes = (const uint8_t *)text;
     size_t size = strlen(text);
-    uint64_t line, start, length, written;
-    uint32_t number = graph_name_from_header_lines(bytes, size, record, GRAPH_NAME_RECORD_BYTES, &line, &start, &length);
+    uint64_t line, start, length, offset, written;
+    uint32_t number = graph_name_from_header_lines(bytes, size, record, GRAPH_NAME_RECORD_BYTES, &line, &start, &length, &offset);
     if (number == GRAPH_NAME_DONE)
         return;
     uint8_t *message = malloc(GRAPH_NAME_MAX_MESSAGE_WORDS + length);
     if (message == NULL)
         exit(1);
     must(graph_name_error_message(number, line, bytes + start, length, message, GRAPH_NAME_MAX_MESSAGE_WORDS + length, &written));
-    printf("refused with %u in line %u: ", (unsigned)number, (unsigned)line);
+    printf("refused with %u in line %llu at byte %llu: ", (unsigned)number, (unsigned long long)line, (unsigned long long)offset);
     print(message, written);
     printf("\n");
     free(message);

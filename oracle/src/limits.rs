@@ -3,6 +3,7 @@
 use crate::encoder::{BODIES, LONGEST, NAMES, PAIRS};
 use crate::generate::{full_graph, full_names, numbered, Random};
 use crate::graph::{Graph, Kind, Name, KINDS};
+use crate::texts::WIDE;
 
 /// The first so many pairs over names: each with itself, then each with the next, and so on, so that each name is soon used.
 fn first_pairs(names: &[Name], count: usize) -> impl Iterator<Item = (Name, Name)> + '_ {
@@ -136,4 +137,42 @@ pub fn further_lines() -> Vec<Vec<u8>> {
         list.push([b"H\tSG:i:", name.as_slice(), b"\tNM:Z:own\tNM:Z:", name.as_slice()].concat());
     }
     list
+}
+
+/// The typed field of a pair.
+fn pair_field(kind: Kind, from: &[u8], to: &[u8]) -> Vec<u8> {
+    let start: &[u8] = if kind == Kind::Subgraph { b"SG:Z:" } else { b"TL:Z:" };
+    [start, from, b",", to].concat()
+}
+
+/// An `H` line of 400 fields, this one at this place; of the others some are pairs of the graph, the rest is passed over.
+pub fn wide_line(graph: &Graph, field: &[u8], place: usize) -> Vec<u8> {
+    let mut fields = vec![b"XX:i:1".to_vec(); WIDE];
+    let known = KINDS.iter().flat_map(|&kind| graph.pairs(kind).iter().map(move |(from, to)| pair_field(kind, from, to)));
+    for (other, pair) in (0..WIDE).step_by(20).zip(known) {
+        fields[other] = pair;
+    }
+    fields[place] = field.to_vec();
+    [b"H\t", fields.join(&b'\t').as_slice()].concat()
+}
+
+/// Lines of 400 fields that pass a size: the names or their bytes within the first, the pairs within the third. Fields between the pairs are
+/// passed over.
+pub fn passing_lines(random: &mut Random) -> Vec<u8> {
+    let kind = *random.pick(&KINDS);
+    let length = *random.pick(&[6, 60]);
+    let new_names = |number: usize| (numbered(b'p', 2 * number, length), numbered(b'p', 2 * number + 1, length));
+    let pairs: Vec<(Name, Name)> = match random.below(3) {
+        0 => first_pairs(&short_names(b'k', 40), 3 * WIDE).collect(),
+        _ => (0..WIDE).map(new_names).collect(),
+    };
+    let mut fields = Vec::new();
+    for (from, to) in &pairs {
+        if random.once_in(8) {
+            fields.push(b"SG:i:7".to_vec());
+        }
+        fields.push(pair_field(kind, from, to));
+    }
+    let lines: Vec<Vec<u8>> = fields.chunks(WIDE).map(|fields| [b"H\t", fields.join(&b'\t').as_slice()].concat()).collect();
+    lines.join(&b'\n')
 }

@@ -1,8 +1,8 @@
 //! The fixed list: a sample of the oracle's answers in a file, which the program `replay` (crates/replay) replays with no Rust at hand.
 //!
-//! What is kept of the comparisons: for each entry, result and first number that comes out some small ones, at growing distances; of the
-//! large ones the smallest that is refused by each size, and then, as far as the file has room, the smallest for each set of limits that
-//! a record reaches.
+//! What is kept of the comparisons: for each entry, result and first number that comes out (of tags the offset, since their line is always 0)
+//! some small ones, at growing distances; of the large ones the smallest that is refused by each size, and then, as far as the file has room,
+//! the smallest for each set of limits that a record reaches.
 
 use crate::buffers::content_end;
 use crate::encoder::{decode, Counts, BODIES, LONGEST, NAMES, PAIRS, RECORD};
@@ -102,12 +102,13 @@ impl<const COUNT: usize> Listed for ([Hex<'_>; 3], [u64; COUNT]) {
 /// The bytes that a case sets, each with its place among the names.
 type Setting = BTreeMap<usize, Vec<u8>>;
 
-/// One call: what is set for it, its entry and the numbers of its line, the result first.
+/// One call: what is set for it, its entry and the numbers of its line: the result, so many that come out, and those that go in.
 #[derive(Clone)]
 struct Case {
     entry: &'static str,
     setting: Setting,
     numbers: Vec<u64>,
+    coming_out: usize,
     cost: usize,
 }
 
@@ -205,9 +206,10 @@ impl Case {
             Input::Number(number) if placed(entry, label, input).is_none() => Some(*number),
             _ => None,
         });
+        let coming_out = numbers.len();
         let numbers = [result].into_iter().chain(numbers).chain(given).collect();
         let cost = setting.keys().map(|&place| shown(&setting, place).len()).sum();
-        Some(Case { entry, setting, numbers, cost })
+        Some(Case { entry, setting, numbers, coming_out, cost })
     }
 
     /// The limits of the record that the case is about: the one that comes out, else the one that goes in.
@@ -228,14 +230,15 @@ impl Case {
         format!("{} {}\n", self.entry, numbers.join(" "))
     }
 
-    /// The case with another answer: another result, another first number, or another byte in an output; as far as there are such.
+    /// The case with another answer: another result, another one of the numbers that come out, or another byte in an output; as far as there
+    /// are such.
     fn wrong(&self) -> Vec<Case> {
         let changed = |place: usize| {
             let mut other = self.clone();
             other.numbers[place] += 1;
             other
         };
-        let mut list: Vec<Case> = (0..self.numbers.len().min(2)).map(changed).collect();
+        let mut list: Vec<Case> = (0..=self.coming_out).map(changed).collect();
         if self.setting.get(&WANT_AT).is_some_and(|bytes| !bytes.is_empty()) {
             let mut other = self.clone();
             *other.setting.get_mut(&WANT_AT).and_then(|bytes| bytes.last_mut()).expect("a byte") ^= 1;
@@ -245,7 +248,8 @@ impl Case {
     }
 }
 
-/// A sort of small comparisons: the entry, the result, and the first number that comes out, cut at 2; of a message its number.
+/// A sort of small comparisons: the entry, the result, and the first number that comes out, cut at 2; of tags the offset, cut so too; of a
+/// message its number.
 type Sort = (&'static str, u64, u64);
 
 /// The comparisons that are kept; the large ones by entry, result and limits.
@@ -269,8 +273,12 @@ impl Sample {
             }
             return;
         }
-        let first = if entry == "error_message" { case.numbers[2].min(11) } else { case.numbers.get(1).map_or(0, |&number| number.min(2)) };
-        let key = (entry, result, first);
+        let told = match entry {
+            "error_message" => case.numbers[2].min(11),
+            "from_tags" => case.numbers[4].min(2),
+            _ => case.numbers.get(1).map_or(0, |&number| number.min(2)),
+        };
+        let key = (entry, result, told);
         let seen = self.seen.entry(key).or_default();
         *seen += 1;
         let kept = self.small.entry(key).or_default();

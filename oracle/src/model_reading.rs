@@ -1,17 +1,18 @@
-//! A reading of header lines and tags written from docs/FORMAT.md alone, with the number, line and place of each refusal, and the text of
-//! the message that the Rust gives for it.
+//! A reading of header lines and tags written from docs/FORMAT.md alone, with the number, line, place and offset of each refusal, and the
+//! text of the message that the Rust gives for it.
 
 use crate::encoder::{BODIES, LONGEST, NAMES, PAIRS};
 use crate::graph::{Graph, Kind, Name, KINDS};
 use std::collections::BTreeMap;
 
-/// A refused reading: its number, its line, and the quoted part as a place in the text or tag value.
+/// A refused reading: its number, its line, the quoted part as a place in the text or tag value, and the byte of it where the fault lies.
 #[derive(Clone, Copy, PartialEq, Eq, Debug)]
 pub struct Refusal {
     pub number: u32,
     pub line: u64,
     pub start: u64,
     pub length: u64,
+    pub offset: u64,
 }
 
 /// A part of a text, with the place where it begins.
@@ -80,11 +81,11 @@ impl Reader {
         }
     }
 
-    /// Refuses in this line if the sizes do.
-    fn judge(&self, line: u64) -> Result<(), Refusal> {
+    /// Refuses in this line, at the start of the field that was read last, if the sizes do.
+    fn judge(&self, line: u64, field_start: usize) -> Result<(), Refusal> {
         match self.sizes() {
             0 => Ok(()),
-            number => Err(unquoted(number, line)),
+            number => Err(unquoted(number, line, field_start)),
         }
     }
 
@@ -95,7 +96,7 @@ impl Reader {
             return Err(quoted(number, line, part));
         }
         self.add_pair(kind, names[0], names[1]);
-        self.judge(line)
+        self.judge(line, part.0)
     }
 
     /// Reads a field of an `H` line.
@@ -107,7 +108,7 @@ impl Reader {
         match &field[..5] {
             b"NM:Z:" => {
                 self.set_name(&field[5..]);
-                self.judge(line)
+                self.judge(line, part.0)
             }
             b"SG:Z:" => self.relation(Kind::Subgraph, &field[5..], 4, line, part),
             b"TL:Z:" => self.relation(Kind::Translation, &field[5..], 5, line, part),
@@ -115,7 +116,7 @@ impl Reader {
         }
     }
 
-    /// Reads the fields of an `@` line after its first; `whole` is the line.
+    /// Reads the fields of an `@` line after its first; `whole` is the line. Its sizes are judged once, at the second field.
     fn gaf_line(&mut self, line: u64, whole: Part, first: &[u8], further: &[Part]) -> Result<(), Refusal> {
         let (number, asked) = match first {
             b"@RN" => (6, 1),
@@ -131,7 +132,7 @@ impl Reader {
             7 => self.add_pair(Kind::Subgraph, further[0].1, further[1].1),
             _ => self.add_pair(Kind::Translation, further[0].1, further[1].1),
         }
-        self.judge(line)
+        self.judge(line, further[0].0)
     }
 
     /// Reads a line.
@@ -139,7 +140,7 @@ impl Reader {
         let fields = split(whole, b'\t');
         let first = fields[0].1;
         if fields.len() < 2 {
-            Err(unquoted(1, line))
+            Err(unquoted(1, line, whole.0))
         } else if first == b"H" {
             fields[1..].iter().try_for_each(|&field| self.typed_field(line, field))
         } else if first.len() == 3 && first[0] == b'@' {
@@ -150,14 +151,14 @@ impl Reader {
     }
 }
 
-/// A refusal that quotes a part.
+/// A refusal that quotes a part, whose start is its offset.
 fn quoted(number: u32, line: u64, part: Part) -> Refusal {
-    Refusal { number, line, start: part.0 as u64, length: part.1.len() as u64 }
+    Refusal { number, line, start: part.0 as u64, length: part.1.len() as u64, offset: part.0 as u64 }
 }
 
-/// A refusal that quotes nothing.
-fn unquoted(number: u32, line: u64) -> Refusal {
-    Refusal { number, line, start: 0, length: 0 }
+/// A refusal with this offset that quotes nothing.
+fn unquoted(number: u32, line: u64, offset: usize) -> Refusal {
+    Refusal { number, line, start: 0, length: 0, offset: offset as u64 }
 }
 
 /// The parts of a part between the bytes of this value.
@@ -208,7 +209,7 @@ pub fn read_tags(tags: TagValues) -> Result<Graph, Refusal> {
     let mut reader = Reader::default();
     if let Some(name) = tags.name {
         reader.set_name(name);
-        reader.judge(0)?;
+        reader.judge(0, 0)?;
     }
     for (kind, number, value) in [(Kind::Subgraph, 9, tags.subgraph), (Kind::Translation, 10, tags.translation)] {
         for part in value.map_or(Vec::new(), |value| split((0, value), b';')) {

@@ -8,7 +8,7 @@ use crate::limits;
 use crate::model_reading::{message, read_header, read_tags, Refusal, TagValues};
 use crate::outputs::{compare_texts, each_room, text_outcome, unwritten, UNWRITTEN};
 use crate::report::{Hex, Input, Inputs, Report};
-use crate::texts;
+use crate::texts::{self, WIDE};
 
 /// Bytes that reach every branch of the reading of header lines.
 const HEADER_BYTES: &[u8] = b"H@RNSGTLZM:,\t\na";
@@ -21,13 +21,13 @@ const BEGINNINGS: [&[u8]; 9] =
 const FURTHER_BYTES: &[u8] = b"\t\n:,Zab";
 
 /// The header texts of the examples of docs/FORMAT.md, and others of a special kind.
-const EXAMPLES: [&[u8]; 22] = [
+const EXAMPLES: [&[u8]; 26] = [
     b"H\tNM:Z:", b"@RN\t", b"@RN", b"H\t", b"H\tSG:i:7", b"H\tSG:Z:a,b,c", b"@SG\ta,b\tc",
     b"H\tVN:Z:1.1\tNM:Z:b2\n@SG\tb2\tb1\nH\tTL:Z:b1,a\n", b"", b"\n", b"\n\n", b"\tx", b"H\tNM:Z:a\r\n", b"H\tVN:Z", b"H\tVN:Z:\tSG", b"@RN\ta\tb", b"@SG\ta\t", b"@SG\t\tb", b"@TL\ta",
-    b"H\tNM:Z:a\tNM:Z:b", b"@RNx\ta", b"\xff\t\xff",
+    b"H\tNM:Z:a\tNM:Z:b", b"@RNx\ta", b"\xff\t\xff", b"@RN\ta\nH", b"@RN\ta\nG\tb", b"H\tVN:Z:1\tx", b"@RN\ta\n@SG\tx",
 ];
 
-/// Calls a function on header texts: the examples, all short ones, random ones and damaged ones.
+/// Calls a function on header texts: the examples, all short ones, random ones and damaged ones, and ones with lines of 400 fields.
 pub fn each_header_text(rounds: usize, mut call: impl FnMut(&[u8])) {
     EXAMPLES.into_iter().for_each(&mut call);
     texts::each_text(HEADER_BYTES, texts::length_within(HEADER_BYTES.len(), 10 * rounds), &mut call);
@@ -42,9 +42,17 @@ pub fn each_header_text(rounds: usize, mut call: impl FnMut(&[u8])) {
         call(&texts::damaged_text(&mut random, lines.clone()));
         call(&lines);
     }
+    let mut random = Random::new(23);
+    for round in 0..rounds / 2 {
+        call(&texts::faulty_text(&mut random));
+        if round % 16 == 0 {
+            call(&limits::passing_lines(&mut random));
+        }
+    }
 }
 
-/// Calls a function on header texts at the limits, and on texts with more lines, fields or bytes than two bytes can count.
+/// Calls a function on header texts at the limits, some with a line of 400 fields behind, and on texts with more lines, fields or bytes than
+/// two bytes can count.
 pub fn each_limit_text(mut call: impl FnMut(&[u8])) {
     for graph in limits::graphs() {
         for gfa in [false, true] {
@@ -62,29 +70,45 @@ pub fn each_limit_text(mut call: impl FnMut(&[u8])) {
         call(&[b"H", fields.as_slice(), b"\tSG:Z:a,b\n", end].concat());
     }
     call(&[b"H", fields.as_slice(), b"\tx"].concat());
+    each_wide_limit_text(call);
 }
 
-/// The outcome of a reading into a buffer of this length: the result, and then the three numbers and the buffer.
-fn expected(reading: Result<Graph, Refusal>, length: usize) -> (u32, ([u64; 3], Vec<u8>)) {
+/// Calls a function on header texts at the limits that end in a line of 400 fields. One of these is new, and passes the limit of many graphs.
+fn each_wide_limit_text(mut call: impl FnMut(&[u8])) {
+    let mut random = Random::new(24);
+    for graph in limits::graphs() {
+        let text = limits::text_of(&graph, true);
+        for field in [&b"NM:Z:n"[..], b"SG:Z:a,b", b"TL:Z:b,a"] {
+            for place in [0, 1 + random.below(WIDE - 2), WIDE - 1] {
+                call(&[text.as_slice(), &limits::wide_line(&graph, field, place)].concat());
+            }
+        }
+    }
+}
+
+/// The outcome of a reading into a buffer of this length: the result, and then the numbers (line, start, length, offset) and the buffer.
+fn expected(reading: Result<Graph, Refusal>, length: usize) -> (u32, ([u64; 4], Vec<u8>)) {
     if length != RECORD {
-        return (15, ([0; 3], unwritten(length)));
+        return (15, ([0; 4], unwritten(length)));
     }
     match reading {
-        Ok(graph) => (0, ([0; 3], encode(&graph))),
-        Err(refusal) => (refusal.number, ([refusal.line, refusal.start, refusal.length], ZEROS.to_vec())),
+        Ok(graph) => (0, ([0; 4], encode(&graph))),
+        Err(refusal) => {
+            (refusal.number, ([refusal.line, refusal.start, refusal.length, refusal.offset], ZEROS.to_vec()))
+        }
     }
 }
 
 /// Compares a reading into a buffer of this length.
 fn compare(
     report: &mut Report, entry: &'static str, inputs: &Inputs, reading: Result<Graph, Refusal>, length: usize,
-    call: impl Fn(&mut [u8], &mut u64, &mut u64, &mut u64) -> u32,
+    call: impl Fn(&mut [u8], &mut u64, &mut u64, &mut u64, &mut u64) -> u32,
 ) {
     let mut record = unwritten(length);
-    let [mut line, mut start, mut part] = [UNWRITTEN; 3];
-    let number = call(&mut record, &mut line, &mut start, &mut part);
+    let [mut line, mut start, mut part, mut offset] = [UNWRITTEN; 4];
+    let number = call(&mut record, &mut line, &mut start, &mut part, &mut offset);
     let (expected, (numbers, buffer)) = expected(reading, length);
-    report.compare(entry, inputs, (expected, (numbers, Hex(&buffer))), (number, ([line, start, part], Hex(&record))));
+    report.compare(entry, inputs, (expected, (numbers, Hex(&buffer))), (number, ([line, start, part, offset], Hex(&record))));
 }
 
 /// Compares `from_header_lines`.
@@ -99,15 +123,15 @@ pub fn from_header_lines(report: &mut Report, rounds: usize) {
 /// Compares the reading of one header text.
 fn header(report: &mut Report, text: &[u8], length: usize) {
     let inputs = [("text", Input::Bytes(text)), ("buffer's length", Input::Number(length as u64))];
-    compare(report, "from_header_lines", &inputs, read_header(text), length, |record, line, start, part| {
-        graph_name::from_header_lines(text, record, line, start, part)
+    compare(report, "from_header_lines", &inputs, read_header(text), length, |record, line, start, part, offset| {
+        graph_name::from_header_lines(text, record, line, start, part, offset)
     });
 }
 
 /// Bytes that reach every branch of the reading of tags.
 const TAG_BYTES: &[u8] = b"a,;b";
 
-/// Calls a function on tag values: all short ones in each tag, and random ones.
+/// Calls a function on tag values: all short ones in each tag, random ones, and ones with a fault in either tag or a long own name.
 pub fn each_tags(rounds: usize, mut call: impl FnMut(TagValues)) {
     texts::each_text(TAG_BYTES, texts::length_within(TAG_BYTES.len(), rounds), |value| {
         call(TagValues { name: None, subgraph: Some(value), translation: None });
@@ -121,12 +145,25 @@ pub fn each_tags(rounds: usize, mut call: impl FnMut(TagValues)) {
         let mut present = |value| if random.once_in(4) { None } else { Some(value) };
         call(TagValues { name: present(&name[..]), subgraph: present(&subgraph), translation: present(&translation) });
     }
+    let mut random = Random::new(25);
+    for _ in 0..rounds / 8 {
+        let (name, value) = (texts::long_name(&mut random), texts::faulty_tag(&mut random));
+        call(TagValues { name: Some(b"a"), subgraph: Some(&value), translation: Some(b"a,b;") });
+        call(TagValues { name: None, subgraph: Some(b"a,b;b,cd"), translation: Some(&value) });
+        call(TagValues { name: Some(&name), subgraph: Some(&value), translation: None });
+    }
 }
 
-/// Calls a function on tag values at the limits.
+/// Calls a function on tag values at the limits, and on such with a relation past them that others follow.
 pub fn each_limit_tags(mut call: impl FnMut(TagValues)) {
     for graph in limits::graphs() {
         let (subgraph, translation) = (limits::tag_of(&graph, Kind::Subgraph), limits::tag_of(&graph, Kind::Translation));
+        for value in [&subgraph, &translation] {
+            let followed = [value.as_slice(), b";a,b;", value].concat();
+            call(TagValues { name: None, subgraph: Some(&followed), translation: None });
+            call(TagValues { name: None, subgraph: None, translation: Some(&followed) });
+            call(TagValues { name: graph.name.as_deref(), subgraph: Some(value), translation: Some(b"a,b;b,c") });
+        }
         for name in limits::names() {
             let more = [subgraph.as_slice(), b";a,", &name].concat();
             for subgraph in [&subgraph, &more] {
@@ -164,8 +201,8 @@ fn tags(report: &mut Report, values: TagValues, length: usize, flag: u32) {
         ("has_translation", Input::Number(flags[2].into())), ("translation", Input::Bytes(translation)),
         ("buffer's length", Input::Number(length as u64)),
     ];
-    compare(report, "from_tags", &inputs, read_tags(values), length, |record, line, start, part| {
-        graph_name::from_tags(flags[0], name, flags[1], subgraph, flags[2], translation, record, line, start, part)
+    compare(report, "from_tags", &inputs, read_tags(values), length, |record, line, start, part, offset| {
+        graph_name::from_tags(flags[0], name, flags[1], subgraph, flags[2], translation, record, line, start, part, offset)
     });
 }
 

@@ -1,5 +1,5 @@
-//! Checks of the oracle's own models: the encoder against the decoder, and the readings, messages, paths and descriptions against the
-//! Rust, on the inputs that the library is then asked about.
+//! Checks of the oracle's own models: the encoder against the decoder, the readings, messages, paths and descriptions against the Rust, and
+//! the offsets of refusals against readings of texts that are cut off, on the inputs that the library is then asked about.
 
 use crate::encoder::{decode, encode, sizes, Raw, RECORD};
 use crate::generate::{self, Random};
@@ -11,7 +11,7 @@ use crate::name::GraphName;
 use crate::paths::large_graphs;
 use crate::reading::{each_header_text, each_limit_tags, each_limit_text, each_tags};
 use crate::records::each_buffer;
-use crate::report::{Hex, Input, Report};
+use crate::report::{Hex, Input, Inputs, Report};
 use crate::{limits, Tags};
 
 /// Runs all checks.
@@ -87,16 +87,75 @@ fn against_rust(
     report.check(entry, inputs, &rust, &model);
 }
 
-/// Checks the reading of a header text that is valid UTF-8.
+/// Checks the place of a refusal against an offset found in another way: it is the refusal's offset, and what is quoted begins there.
+fn offset(report: &mut Report, inputs: &Inputs, refusal: &Refusal, found: usize) {
+    let start = if (2..=10).contains(&refusal.number) { found } else { 0 };
+    report.check("model: offsets", inputs, &[found as u64, start as u64], &[refusal.offset, refusal.start]);
+}
+
+/// The start of the first part with which a text, cut off behind that part, is refused: of the parts from a place on, which this byte
+/// separates. A text that is refused stays so with more parts behind it, so the part is found by halving.
+fn first_refused(text: &[u8], from: usize, between: u8, refused: impl Fn(&[u8]) -> bool) -> usize {
+    let ends: Vec<usize> = (from..=text.len()).filter(|&place| place == text.len() || text[place] == between).collect();
+    let fine = ends.partition_point(|&end| !refused(&text[..end]));
+    if fine == 0 { from } else { ends[fine - 1] + 1 }
+}
+
+/// Where a line begins and where it ends, by the bytes 10 of the text.
+fn line_place(text: &[u8], line: usize) -> (usize, usize) {
+    let ends: Vec<usize> = (0..=text.len()).filter(|&place| place == text.len() || text[place] == b'\n').collect();
+    (if line == 1 { 0 } else { ends[line - 2] + 1 }, ends[line - 1])
+}
+
+/// Checks the offset of a refused header text from the text, the number and the line alone. For 1, 2 and 6 to 8 it is where the line begins;
+/// on an `@` line for the sizes 4 bytes on; on an `H` line where the first field begins with which the text, cut off behind that field, is
+/// refused with this number.
+fn header_offset(report: &mut Report, text: &[u8], refusal: &Refusal) {
+    let (start, end) = line_place(text, refusal.line as usize);
+    let refused = |cut: &[u8]| read_header(cut).is_err_and(|other| other.number == refusal.number);
+    let found = match refusal.number {
+        1 | 2 | 6..=8 => start,
+        _ if text[start] == b'@' => start + 4,
+        _ => first_refused(&text[..end], start + 2, b'\t', refused),
+    };
+    offset(report, &[("text", Input::Bytes(text))], refusal, found);
+}
+
+/// Checks the reading of a header text: the offset of a refusal, and what the Rust gives if the text is valid UTF-8.
 fn header(report: &mut Report, text: &[u8]) {
+    let reading = read_header(text);
+    if let Err(refusal) = &reading {
+        header_offset(report, text, refusal);
+    }
     if let Ok(valid) = std::str::from_utf8(text) {
         let rust = GraphName::from_header_lines(&rust_lines(valid));
-        against_rust(report, "model: header lines", &[("text", Input::Bytes(text))], read_header(text), text, rust);
+        against_rust(report, "model: header lines", &[("text", Input::Bytes(text))], reading, text, rust);
     }
 }
 
-/// Checks the reading of tag values that are valid UTF-8.
+/// Checks the offset of refused tag values. With the tags behind it left out, the first tag that is refused with this number is the one in
+/// which the offset counts: 0 in the name, else where the first relation begins with which the value, cut off behind it, is so refused.
+fn tags_offset(report: &mut Report, values: TagValues, refusal: &Refusal) {
+    let refused = |values: TagValues| read_tags(values).is_err_and(|other| other.number == refusal.number);
+    let [name, subgraph, translation] = [values.name, values.subgraph, values.translation].map(|value| value.unwrap_or(b""));
+    let first_two = TagValues { translation: None, ..values };
+    let found = if refused(TagValues { subgraph: None, ..first_two }) {
+        0
+    } else if refused(first_two) {
+        first_refused(subgraph, 0, b';', |cut| refused(TagValues { subgraph: Some(cut), ..first_two }))
+    } else {
+        first_refused(translation, 0, b';', |cut| refused(TagValues { translation: Some(cut), ..values }))
+    };
+    let inputs = [("name", Input::Bytes(name)), ("subgraph", Input::Bytes(subgraph)), ("translation", Input::Bytes(translation))];
+    offset(report, &inputs, refusal, found);
+}
+
+/// Checks the reading of tag values: the offset of a refusal, and what the Rust gives if the values are valid UTF-8.
 fn tags(report: &mut Report, values: TagValues) {
+    let reading = read_tags(values);
+    if let Err(refusal) = &reading {
+        tags_offset(report, values, refusal);
+    }
     let mut tags = Tags::default();
     let keys = [("pggname", values.name), ("subgraph", values.subgraph), ("translation", values.translation)];
     for (key, value) in keys {
@@ -106,7 +165,6 @@ fn tags(report: &mut Report, values: TagValues) {
             None => {}
         }
     }
-    let reading = read_tags(values);
     let at_subgraph = matches!(reading, Err(Refusal { number: 9, .. }));
     let text = if at_subgraph { values.subgraph } else { values.translation }.unwrap_or(b"");
     let inputs = [("subgraph", Input::Bytes(values.subgraph.unwrap_or(b""))), ("translation", Input::Bytes(text))];

@@ -16,16 +16,17 @@ fn text(bytes: &[u8]) -> &str {
     std::str::from_utf8(bytes).expect("the names of this program are ASCII")
 }
 
-/// Reads header lines into a record, and prints a refusal: its number, its line, and the error message with the quoted part of the text.
+/// Reads header lines into a record, and prints a refusal: its number, its line, its offset in the text, from 0, and the error message with
+/// the quoted part of the text.
 fn read_lines(lines: &[u8]) -> Vec<u8> {
     let mut record = vec![0; graph_name::RECORD_BYTES];
-    let (mut line, mut start, mut length, mut written) = (0, 0, 0, 0);
-    let number = graph_name::from_header_lines(lines, &mut record, &mut line, &mut start, &mut length);
+    let (mut line, mut start, mut length, mut offset, mut written) = (0, 0, 0, 0, 0);
+    let number = graph_name::from_header_lines(lines, &mut record, &mut line, &mut start, &mut length, &mut offset);
     if number != number::DONE {
         let part = &lines[start as usize..(start + length) as usize];
         let mut message = vec![0; graph_name::MAX_MESSAGE_WORDS + part.len()];
         must(graph_name::error_message(number, line, part, &mut message, &mut written));
-        println!("refused with {number} in line {line}: {}", text(&message[..written as usize]));
+        println!("refused with {number} in line {line} at byte {offset}: {}", text(&message[..written as usize]));
     }
     record
 }

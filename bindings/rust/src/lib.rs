@@ -2,8 +2,8 @@
 //!
 //! A slice takes the place of a pointer and a length, and `&mut u64` that of a pointer to a number. The library asks nothing else of its
 //! arguments: any bytes, lengths and numbers may come. The result is one of the numbers in [`number`], 0 for done. A number behind a
-//! `&mut u64` is written on 0 only, except `line`, `start` and `length` of the two readings, which are always written. `docs/FORMAT.md` has
-//! the formats byte for byte; `examples/example.rs` uses the functions.
+//! `&mut u64` is written on 0 only, except `line`, `start`, `length` and `offset` of the two readings, which are always written, and are 0 on
+//! 0. `docs/FORMAT.md` has the formats byte for byte; `examples/example.rs` uses the functions.
 
 /// The numbers that the functions give. Where several hold, 15 of any record comes before 16 of any, then 18, then 1 to 14 in the order of the
 /// text, then 17.
@@ -91,12 +91,13 @@ mod library {
     extern "C" {
         pub fn graph_name_new(name: *const u8, name_len: usize, record: *mut u8, record_len: usize) -> u32;
         pub fn graph_name_from_header_lines(
-            text: *const u8, text_len: usize, record: *mut u8, record_len: usize, line: *mut u64, start: *mut u64, length: *mut u64,
+            text: *const u8, text_len: usize, record: *mut u8, record_len: usize,
+            line: *mut u64, start: *mut u64, length: *mut u64, offset: *mut u64,
         ) -> u32;
         pub fn graph_name_from_tags(
             has_name: u32, name: *const u8, name_len: usize, has_subgraph: u32, subgraph: *const u8, subgraph_len: usize,
             has_translation: u32, translation: *const u8, translation_len: usize, record: *mut u8, record_len: usize,
-            line: *mut u64, start: *mut u64, length: *mut u64,
+            line: *mut u64, start: *mut u64, length: *mut u64, offset: *mut u64,
         ) -> u32;
         pub fn graph_name_error_message(
             number: u32, line: u64, part: *const u8, part_len: usize, out: *mut u8, out_len: usize, written: *mut u64,
@@ -169,29 +170,34 @@ pub fn new(name: &[u8], record: &mut [u8]) -> u32 {
 }
 
 /// Reads a text of header lines, which byte 10 ends. A refusal leaves the empty record and gives its line, from 1, and the quoted part as a
-/// place in the text; 15 leaves the buffer and gives line 0.
+/// place in the text. It also gives an offset, the byte of the text, from 0, where the fault lies: for 1 the line's first, for 2 to 8 that of
+/// the quoted part, for 11 to 14 that of the field; of an `@` line this is the second field, also where the third is the long one. 15 leaves
+/// the buffer and gives line 0 and offset 0.
 #[inline]
-pub fn from_header_lines(text: &[u8], record: &mut [u8], line: &mut u64, start: &mut u64, length: &mut u64) -> u32 {
+pub fn from_header_lines(
+    text: &[u8], record: &mut [u8], line: &mut u64, start: &mut u64, length: &mut u64, offset: &mut u64,
+) -> u32 {
     unsafe {
         library::graph_name_from_header_lines(
-            text.as_ptr(), text.len(), record.as_mut_ptr(), record.len(), line, start, length,
+            text.as_ptr(), text.len(), record.as_mut_ptr(), record.len(), line, start, length, offset,
         )
     }
 }
 
 /// Reads the three tag values; a flag of 0 stands for an absent tag, whose slice is not looked at. A refusal leaves the empty record and gives
-/// line 0 and the quoted part as a place in its tag's value; 15 leaves the buffer.
+/// line 0 and the quoted part as a place in its tag's value; 15 leaves the buffer. The offset is the byte of that value, from 0, where the
+/// relation begins, and 0 for a long own name and for 15. 11 to 14 do not say in which tag the offset counts.
 #[inline]
 #[allow(clippy::too_many_arguments)]
 pub fn from_tags(
     has_name: u32, name: &[u8], has_subgraph: u32, subgraph: &[u8], has_translation: u32, translation: &[u8],
-    record: &mut [u8], line: &mut u64, start: &mut u64, length: &mut u64,
+    record: &mut [u8], line: &mut u64, start: &mut u64, length: &mut u64, offset: &mut u64,
 ) -> u32 {
     unsafe {
         library::graph_name_from_tags(
             has_name, name.as_ptr(), name.len(), has_subgraph, subgraph.as_ptr(), subgraph.len(),
             has_translation, translation.as_ptr(), translation.len(),
-            record.as_mut_ptr(), record.len(), line, start, length,
+            record.as_mut_ptr(), record.len(), line, start, length, offset,
         )
     }
 }

@@ -5,6 +5,7 @@ mod program;
 
 use test_examples::Counts;
 use test_examples::run_lines;
+use test_examples::run_offsets;
 use test_examples::run_sizes;
 use test_output::print;
 use test_output::print_number;
@@ -14,7 +15,8 @@ fn main() {
         stated: 0,
         differ: 0,
     };
-    let c = run_lines(program::run(description::run(run_sizes(none))));
+    let d = program::run(description::run(run_sizes(none)));
+    let c = run_lines(run_offsets(d));
     print_number(c.stated);
     print(b" as stated, ");
     print_number(c.differ);

@@ -3,3 +3,5 @@ pub mod Classified
 pub mod Parts
 pub mod Rest
 pub mod Steps
+pub mod Standing
+pub mod Offsets

@@ -1,6 +1,6 @@
 -- The rest of a reading, step by step: its start and its end, the next field of an `H` line, and the next line by its first field.
 use mathlib.Core.Path.{_≡_, refl, sym, ap, _∙_}
-use mathlib.Core.Bool.{Bool, true, false, cond}
+use mathlib.Core.Bool.{Bool, true, false, cond, _||_}
 use mathlib.Core.List.{List, [], _∷_}
 use Prim.Native.Nat.{ℕ, zero, suc, _+_, _-_, _≤_, _<_}
 use native.Mathlib.Omega.{arith}
@@ -14,7 +14,7 @@ use Rattle.model.specs.Record.{GraphName, empty}
 use Rattle.model.specs.Reading.{Reading, twoParts, addTo, Taken, took, wrong, done, afterTaken, afterReading, refuse, typedField, typedFields, isGafHead, gafLine, lineFields, linesFrom, withoutLastEmpty, fromHeaderLines, tagRelations, tagValue}
 use Rattle.text.proofs.Split.{split-from, split-last, split-more}
 use Rattle.text.proofs.Tests.{same-tests}
-use Rattle.fields.specs.Rest.{linesAt, partsAt, OneLine, restOf}
+use Rattle.fields.specs.Rest.{linesAt, partsAt, OneLine, restOf, lineBegin, fieldBegin}
 use Rattle.fields.specs.declared.step.Tally.{Tally}
 use Rattle.fields.specs.Fields.{apply, tagNumber, classifyPart, separatorOf}
 use Rattle.fields.specs.declared.field.Source.{Source}
@@ -116,7 +116,7 @@ module _ (t : Bytes) (lines stop at : ℕ) (g : GraphName) where
 pub rest-part : (source : Source) (t : Bytes) (tally : Tally) (stop at : ℕ) (g : GraphName) (e : ℕ) → at < stop → stop ≤ length t + 1
     → OneLine source t stop tally → e ≡ at + indexOf (separatorOf source) (drop at (take (stop - 1) t))
     → restOf source t (tally .lines) stop at g
-    ≡ afterTaken (apply g (classifyPart source (between t at e))) (restOf source t (tally .lines) stop (e + 1)) (refuse (tally .lines) at (e - at))
+    ≡ afterTaken (apply g (classifyPart source (between t at e))) (restOf source t (tally .lines) stop (e + 1)) (refuse (tally .lines) at at (e - at))
 unfolding restOf typedFields tagRelations
 rest-part Header t tally stop at g e h w o f =
     let s = next-part 9 t stop (omega arith) w at e h f in
@@ -132,7 +132,8 @@ rest-part (Tag k) t tally stop at g e h w o f =
 line-fields : (lines at : ℕ) (whole head x : Bytes) (g : GraphName)
     → lineFields lines at whole (head ∷ split 9 x) g
     ≡ cond (sameBytes head (text "H")) (typedFields lines (at + length head + 1) (split 9 x) g)
-    (cond (isGafHead head) (afterTaken (gafLine g head (split 9 x)) done (refuse lines at (length whole))) (refuse lines at (length head) 2))
+    (cond (isGafHead head) (afterTaken (gafLine g head (split 9 x)) done (refuse lines (at + length head + 1) at (length whole)))
+    (refuse lines at at (length head) 2))
 unfolding lineFields
 line-fields lines at whole head x g = rw (split-from 9 x 0 (omega arith))
 
@@ -142,11 +143,29 @@ unfolding linesFrom
 next-line lines at l ls g = refl
 
 -- a line that counts as one field, and then the next line
-whole-line : (t : Bytes) (lines stop start size : ℕ) (r : Taken)
-    → afterReading (afterTaken r done (refuse lines start size)) (linesFrom (suc lines) stop (linesAt t stop))
-    ≡ afterTaken r (restOf Header t lines stop stop) (refuse lines start size)
-whole-line t lines stop start size (took g) = sym (at-line t lines stop stop g (omega arith))
-whole-line t lines stop start size (wrong n) = refl
+whole-line : (t : Bytes) (lines stop begin start size : ℕ) (r : Taken)
+    → afterReading (afterTaken r done (refuse lines begin start size)) (linesFrom (suc lines) stop (linesAt t stop))
+    ≡ afterTaken r (restOf Header t lines stop stop) (refuse lines begin start size)
+whole-line t lines stop begin start size (took g) = sym (at-line t lines stop stop g (omega arith))
+whole-line t lines stop begin start size (wrong n) = refl
+
+two-fields : (at : ℕ) (head x : Bytes)
+    → lineBegin at (head ∷ split 9 x) ≡ cond (sameBytes head (text "H") || isGafHead head) (at + length head + 1) at
+two-fields at head x = rw (split-from 9 x 0 (omega arith))
+
+-- where the first field counts of the line that begins at `at` and ends at e, and whose first field is k bytes long
+module _ (t : Bytes) (at e : ℕ) (f : e ≡ at + indexOf 10 (drop at t)) (k : ℕ) (d : k ≡ 0 + indexOf 9 (drop 0 (between t at e))) where
+  line-begin : fieldBegin t at at ≡ lineBegin at (split 9 (between t at e))
+  line-begin = let n : indexOf 10 (drop at t) ≡ e - at = omega arith in rw (le-ltb at at (omega arith), n)
+
+  pub begin-short : length (between t at e) ≤ k → fieldBegin t at at ≡ at
+  begin-short s = line-begin ∙ rw (no-rest 9 (between t at e) k d s)
+
+  pub begin-head : k < length (between t at e)
+      → fieldBegin t at at ≡ cond (sameBytes (take k (between t at e)) (text "H") || isGafHead (take k (between t at e))) (at + k + 1) at
+  begin-head m =
+      line-begin ∙ ap (lineBegin at) (first-and-rest 9 (between t at e) k d m)
+      ∙ two-fields at (take k (between t at e)) (drop (k + 1) (between t at e)) ∙ rw (length-take-le k (between t at e) (omega arith))
 
 -- the line that begins at `at` and ends at e
 module _ (t : Bytes) (lines at e : ℕ) (g : GraphName) (h : at < length t) (f : e ≡ at + indexOf 10 (drop at t)) where
@@ -162,7 +181,7 @@ module _ (t : Bytes) (lines at e : ℕ) (g : GraphName) (h : at < length t) (f :
 
   -- its first field is k bytes long
   module _ (k : ℕ) (d : k ≡ 0 + indexOf 9 (drop 0 (between t at e))) where
-    pub rest-short : length (between t at e) ≤ k → restOf Header t lines at at g ≡ refuse (suc lines) 0 0 1
+    pub rest-short : length (between t at e) ≤ k → restOf Header t lines at at g ≡ refuse (suc lines) at 0 0 1
     unfolding lineFields
     rest-short s = rest-line ∙ rw (no-rest 9 (between t at e) k d s)
 
@@ -174,8 +193,8 @@ module _ (t : Bytes) (lines at e : ℕ) (g : GraphName) (h : at < length t) (f :
           ≡ afterReading
           (cond (sameBytes (take k (between t at e)) (text "H")) (typedFields (suc lines) (at + k + 1) (split 9 (drop (k + 1) (between t at e))) g)
           (cond (isGafHead (take k (between t at e)))
-          (afterTaken (gafLine g (take k (between t at e)) (split 9 (drop (k + 1) (between t at e)))) done (refuse (suc lines) at (e - at)))
-          (refuse (suc lines) at k 2)))
+          (afterTaken (gafLine g (take k (between t at e)) (split 9 (drop (k + 1) (between t at e)))) done (refuse (suc lines) (at + k + 1) at (e - at)))
+          (refuse (suc lines) at at k 2)))
           (linesFrom (suc (suc lines)) (e + 1) (linesAt t (e + 1)))
       rest-head =
           rest-line
@@ -199,9 +218,10 @@ module _ (t : Bytes) (lines at e : ℕ) (g : GraphName) (h : at < length t) (f :
 
       pub rest-gaf : sameBytes (take k (between t at e)) (text "H") ≡ false → isGafHead (take k (between t at e)) ≡ true
           → restOf Header t lines at at g
-          ≡ afterTaken (gafLine g (take k (between t at e)) (split 9 (drop (k + 1) (between t at e)))) (restOf Header t (suc lines) (e + 1) (e + 1)) (refuse (suc lines) at (e - at))
-      rest-gaf s u = rest-head ∙ rw (s, u) (whole-line t (suc lines) (e + 1) at (e - at) (gafLine g (take k (between t at e)) (split 9 (drop (k + 1) (between t at e)))))
+          ≡ afterTaken (gafLine g (take k (between t at e)) (split 9 (drop (k + 1) (between t at e)))) (restOf Header t (suc lines) (e + 1) (e + 1))
+          (refuse (suc lines) (at + k + 1) at (e - at))
+      rest-gaf s u = rest-head ∙ rw (s, u) (whole-line t (suc lines) (e + 1) (at + k + 1) at (e - at) (gafLine g (take k (between t at e)) (split 9 (drop (k + 1) (between t at e)))))
 
       pub rest-unknown : sameBytes (take k (between t at e)) (text "H") ≡ false → isGafHead (take k (between t at e)) ≡ false
-          → restOf Header t lines at at g ≡ refuse (suc lines) at k 2
+          → restOf Header t lines at at g ≡ refuse (suc lines) at at k 2
       rest-unknown s u = rest-head ∙ rw (s, u)

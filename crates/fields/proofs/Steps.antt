@@ -1,13 +1,13 @@
 -- One step of a reading of header lines: a field of an `H` line, a line that counts as one field, and a line's first fault (`Reads`).
 use mathlib.Core.Path.{_≡_, refl, sym, ap, subst, _∙_}
-use mathlib.Core.Bool.{true, false}
+use mathlib.Core.Bool.{Bool, true, false, cond, _||_}
 use Prim.Native.Nat.{ℕ, suc, _+_, _-_, _≤_, _<_}
 use native.Mathlib.Omega.{arith}
 use native.Mathlib.Numerals.{add-one}
 use lib.Dec.{eqb}
 use lib.ListN.{length, take, drop}
 use lib.Seq.{length-take-le}
-use borrow.Author.Tests.{eqb-true}
+use borrow.Author.Tests.{eqb-true, lt-ltb}
 use Rattle.model.specs.Text.{text}
 use Rattle.model.specs.Bytes.{Bytes, indexOf, split, sameBytes}
 use Rattle.model.specs.Record.{GraphName}
@@ -15,7 +15,7 @@ use Rattle.model.specs.Reading.{afterTaken, refuse, isGafHead}
 use Rattle.text.proofs.Tests.{both-true}
 use Rattle.fields.specs.Fields.{apply, classifyGaf, classifyPart, separatorOf}
 use Rattle.fields.specs.Contents.{meaningOf, PlacesIn}
-use Rattle.fields.specs.Rest.{restOf, OneLine, Position, lineField, Reads}
+use Rattle.fields.specs.Rest.{restOf, OneLine, Position, lineField, fieldBegin, Reads}
 use Rattle.fields.specs.declared.field.Source.{Source}
 use Rattle.fields.specs.declared.field.Source.the-variants.{Header, Tag}
 use Rattle.fields.specs.declared.field.Content.{Content}
@@ -24,7 +24,7 @@ use Rattle.fields.specs.declared.step.Tally.{Tally}
 use Rattle.fields.specs.declared.step.Field.{Field}
 use Rattle.fields.proofs.Classified.{gaf-classified}
 use Rattle.fields.proofs.Parts.{between, part-within, part-length}
-use Rattle.fields.proofs.Rest.{drop-take, next-part, rest-part, rest-short, rest-fields, rest-gaf, rest-unknown}
+use Rattle.fields.proofs.Rest.{drop-take, next-part, rest-part, begin-short, begin-head, rest-short, rest-fields, rest-gaf, rest-unknown}
 
 -- the next part ends at e, where x is the text up to `stop`
 module _ (source : Source) (t : Bytes) (stop at : ℕ) (tally : Tally) (p : Position source t stop at tally) (h : at < stop) (x : Bytes)
@@ -36,12 +36,13 @@ module _ (source : Source) (t : Bytes) (stop at : ℕ) (tally : Tally) (p : Posi
   part-before = next-part (separatorOf source) t stop (omega arith) (p .within) at e h place-in-text .2
 
   pub part-read : (y : Bytes) → y ≡ take (e - at) (drop at t) → (c : Content) → (meaningOf y c ≡ classifyPart source y) × PlacesIn y c
-      → Reads source t stop at tally (record { content = c; start = at; size = e - at; next = e + 1; stop = stop })
+      → Reads source t stop at tally (record { content = c; offset = at; start = at; size = e - at; next = e + 1; stop = stop })
       (record { lines = tally .lines; fields = tally .fields + 1 })
   part-read y v c s =
       let w = rw v at s in
       record {
         reading = λ g. rest-part source t tally stop at g e h (p .within) (p .tag) place-in-text ∙ rw (w .0);
+        begins = rw (lt-ltb at stop h);
         part = omega (arith, part-before, p .within);
         places = w .1;
         onward = omega arith;
@@ -78,12 +79,13 @@ module _ {t : Bytes} {at : ℕ} {tally : Tally} {e : ℕ} {l : Bytes} {k : ℕ} 
   ends = part-within 10 t at e (omega (arith, line .more)) (line .end)
 
   -- a step to the next line, whatever it quotes
-  line-step : (c : Content) (start size : ℕ) → start + size ≤ length t → PlacesIn (take size (drop start t)) c
+  line-step : (c : Content) (begin start size : ℕ) → begin ≡ fieldBegin t at at → start + size ≤ length t → PlacesIn (take size (drop start t)) c
       → ((g : GraphName) → restOf Header t (tally .lines) at at g
-      ≡ afterTaken (apply g (meaningOf (take size (drop start t)) c)) (restOf Header t (suc (tally .lines)) (e + 1) (e + 1)) (refuse (suc (tally .lines)) start size))
-      → Reads Header t at at tally (lineField c start size (e + 1)) counted
-  line-step c start size part places reading = record {
+      ≡ afterTaken (apply g (meaningOf (take size (drop start t)) c)) (restOf Header t (suc (tally .lines)) (e + 1) (e + 1)) (refuse (suc (tally .lines)) begin start size))
+      → Reads Header t at at tally (lineField c begin start size (e + 1)) counted
+  line-step c begin start size begins part places reading = record {
     reading = λ g. rw (add-one (tally .lines)) (reading g);
+    begins = begins;
     part = part;
     places = places;
     onward = omega (arith, ends);
@@ -97,8 +99,10 @@ module _ {t : Bytes} {at : ℕ} {tally : Tally} {e : ℕ} {l : Bytes} {k : ℕ} 
     counted = refl;
   }
 
-  pub short-read : length l ≤ k → Reads Header t at at tally (lineField (Fault 1) 0 0 (e + 1)) counted
-  short-read s = line-step (Fault 1) 0 0 (omega arith) tt (λ g. rest-short t (tally .lines) at e g (line .more) (line .end) k head-at (rw (line .whole) at s))
+  pub short-read : length l ≤ k → Reads Header t at at tally (lineField (Fault 1) at 0 0 (e + 1)) counted
+  short-read s =
+      line-step (Fault 1) at 0 0 (sym (begin-short t at e (line .end) k head-at (rw (line .whole) at s))) (omega arith) tt
+      (λ g. rest-short t (tally .lines) at e g (line .more) (line .end) k head-at (rw (line .whole) at s))
 
   module _ (m : k < length l) where
     head-within : (at + k < e) × (at + k ≤ length t)
@@ -117,11 +121,18 @@ module _ {t : Bytes} {at : ℕ} {tally : Tally} {e : ℕ} {l : Bytes} {k : ℕ} 
           omega (arith, w),
         )
 
+    -- where the line's first field counts, by what its first field is
+    begin-by : (b : Bool) → sameBytes (take k l) (text "H") || isGafHead (take k l) ≡ b → fieldBegin t at at ≡ cond b (at + k + 1) at
+    begin-by b s =
+        begin-head t at e (line .end) k head-at (rw (line .whole) at m)
+        ∙ ap (λ (x : Bool). cond x (at + k + 1) at) (rw (line .whole) at s)
+
     -- an `H` line's first step is that of its second field
     pub fields-read : sameBytes (take k l) (text "H") ≡ true → (f : Field) (after : Tally)
         → Reads Header t (e + 1) (at + k + 1) (record { lines = tally .lines + 1; fields = tally .fields }) f after → Reads Header t at at tally f after
     fields-read s f after n = record {
       reading = λ g. rest-fields t (tally .lines) at e g (line .more) (line .end) k head-at (rw (line .whole) at m) (rw (line .whole) at s) ∙ rw (add-one (tally .lines)) at (n .reading g);
+      begins = n .begins ∙ (rw (lt-ltb (at + k + 1) (e + 1) (omega (arith, head-within))) (sym (begin-by true (rw s))));
       part = n .part;
       places = n .places;
       onward = omega (arith, n .onward);
@@ -134,17 +145,19 @@ module _ {t : Bytes} {at : ℕ} {tally : Tally} {e : ℕ} {l : Bytes} {k : ℕ} 
 
     module _ (s : sameBytes (take k l) (text "H") ≡ false) where
       pub gaf-read : isGafHead (take k l) ≡ true → (c : Content) → (meaningOf l c ≡ classifyGaf (take 2 (drop 1 l)) (split 9 (drop 4 l))) × PlacesIn l c
-          → Reads Header t at at tally (lineField c at (e - at) (e + 1)) counted
+          → Reads Header t at at tally (lineField c (at + k + 1) at (e - at) (e + 1)) counted
       gaf-read u c v =
           let w = rw (line .whole) at v in
           let n : k ≡ 3 = gaf-size u in
           let q : k + 1 ≡ 4 = omega arith in
-          line-step c at (e - at) (omega (arith, ends)) (w .1)
+          line-step c (at + k + 1) at (e - at) (sym (begin-by true (rw (s, u)))) (omega (arith, ends)) (w .1)
           (λ g. rest-gaf t (tally .lines) at e g (line .more) (line .end) k head-at (rw (line .whole) at m) (rw (line .whole) at s) (rw (line .whole) at u)
           ∙ rw (gaf-classified g (take k (between t at e)) (split 9 (drop (k + 1) (between t at e))) (rw (line .whole) at u), w .0, q, n, drop-take 1 3 (between t at e)))
 
-      pub unknown-read : isGafHead (take k l) ≡ false → Reads Header t at at tally (lineField (Fault 2) at k (e + 1)) counted
-      unknown-read u = line-step (Fault 2) at k (head-within .1) tt (λ g. rest-unknown t (tally .lines) at e g (line .more) (line .end) k head-at (rw (line .whole) at m) (rw (line .whole) at s) (rw (line .whole) at u))
+      pub unknown-read : isGafHead (take k l) ≡ false → Reads Header t at at tally (lineField (Fault 2) at at k (e + 1)) counted
+      unknown-read u =
+          line-step (Fault 2) at at k (sym (begin-by false (rw (s, u)))) (head-within .1) tt
+          (λ g. rest-unknown t (tally .lines) at e g (line .more) (line .end) k head-at (rw (line .whole) at m) (rw (line .whole) at s) (rw (line .whole) at u))
 
 -- where what stops at `stop` is done with and the text is not, the next line of header lines begins
 module _ (t : Bytes) (stop at : ℕ) (tally : Tally) (h : stop ≤ at) (l : at < length t) where

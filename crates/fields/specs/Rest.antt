@@ -1,13 +1,14 @@
 -- What is left of a reading at a place of the text, and what one field more makes of it.
 use mathlib.Core.Path.{_≡_}
-use mathlib.Core.Bool.{cond}
-use mathlib.Core.List.{List, []}
+use mathlib.Core.Bool.{cond, _||_}
+use mathlib.Core.List.{List, [], _∷_}
 use Prim.Native.Nat.{ℕ, suc, _+_, _-_, _≤_, _<_}
 use lib.ListN.{length, take, drop}
 use lib.Dec.{ltb}
-use Rattle.model.specs.Bytes.{Bytes, split}
+use Rattle.model.specs.Text.{text}
+use Rattle.model.specs.Bytes.{Bytes, sameBytes, indexOf, split}
 use Rattle.model.specs.Record.{GraphName}
-use Rattle.model.specs.Reading.{Reading, afterTaken, afterReading, refuse, typedFields, linesFrom, addTo, tagRelations, withoutLastEmpty}
+use Rattle.model.specs.Reading.{Reading, afterTaken, afterReading, refuse, typedFields, isGafHead, linesFrom, addTo, tagRelations, withoutLastEmpty}
 use Rattle.fields.specs.Fields.{apply, tagNumber}
 use Rattle.fields.specs.Contents.{meaningOf, PlacesIn}
 use Rattle.fields.specs.declared.field.Source.{Source}
@@ -48,17 +49,29 @@ abbrev pub partOf : Bytes → Field → Bytes
 partOf t f = take (f .size) (drop (f .start) t)
 
 -- a field that is a whole line, or its first fault: the next one begins with the next line
-abbrev pub lineField : Content → ℕ → ℕ → ℕ → Field
-lineField content start size stop = record { content = content; start = start; size = size; next = stop; stop = stop }
+abbrev pub lineField : Content → ℕ → ℕ → ℕ → ℕ → Field
+lineField content offset start size stop =
+    record { content = content; offset = offset; start = start; size = size; next = stop; stop = stop }
 
 -- a field refused with a number, where the tally counts it
 abbrev pub refuseField : Field → Tally → ℕ → Reading
-refuseField f tally = refuse (tally .lines) (f .start) (f .size)
+refuseField f tally = refuse (tally .lines) (f .offset) (f .start) (f .size)
+
+-- where the first field counts of a line that begins at `at`, by its fields: its second one, if the line is an `H` or an `@` line
+abbrev pub lineBegin : ℕ → List Bytes → ℕ
+lineBegin at [] = at
+lineBegin at (head ∷ []) = at
+lineBegin at (head ∷ f ∷ fs) = cond (sameBytes head (text "H") || isGafHead head) (at + length head + 1) at
+
+-- the byte of the text at which the next field begins from `at` on: a part of what stops at `stop`, or the first field of the next line
+abbrev pub fieldBegin : Bytes → ℕ → ℕ → ℕ
+fieldBegin t stop at = cond (ltb at stop) at (lineBegin at (split 9 (take (indexOf 10 (drop at t)) (drop at t))))
 
 -- f is the next field, and `after` the tally with it: what is left with f is what f does, and then what is left behind it
 pub record Reads (source : Source) (t : Bytes) (stop at : ℕ) (tally : Tally) (f : Field) (after : Tally) : Type 0 where
   pub reading : (g : GraphName) → restOf source t (tally .lines) stop at g
       ≡ afterTaken (apply g (meaningOf (partOf t f) (f .content))) (restOf source t (after .lines) (f .stop) (f .next)) (refuseField f after)
+  pub begins : f .offset ≡ fieldBegin t stop at
   pub part : f .start + f .size ≤ length t
   pub places : PlacesIn (partOf t f) (f .content)
   pub onward : at < f .next

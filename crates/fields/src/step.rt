@@ -16,10 +16,12 @@ pub struct Tally {
     pub fields: usize,
 }
 
-// A field: what it says; the part of the text in which its places are counted and which a refusal quotes; where the next one begins, and
-// where its line stops (one past the line's end).
+// A field: what it says; the byte of the whole text at which it begins (an `@` line with its second field, any other line that is refused
+// whole with the line); the part of the text in which its places are counted and which a refusal quotes; where the next one begins, and where
+// its line stops (one past the line's end).
 pub struct Field {
     pub content: Content,
+    pub offset: usize,
     pub start: usize,
     pub size: usize,
     pub next: usize,
@@ -44,6 +46,7 @@ fn next_part(source: Source, t: &[u8], stop: usize, at: usize, tally: Tally) -> 
     let next = end + 1;
     let field = Field {
         content: part_content(source, text::part(t, at, size)),
+        offset: at,
         start: at,
         size,
         next,
@@ -63,11 +66,19 @@ fn is_gaf_head(head: &[u8]) -> bool
 }
 
 // A field that is a whole line, or a line's first fault.
-fn line_read(content: Content, start: usize, size: usize, stop: usize, tally: Tally) -> FieldRead
-    ensures { λ r. ⌜ r ≡ record { field = lineField content start size stop; tally = tally } ⌝ }
+fn line_read(
+    content: Content,
+    offset: usize,
+    start: usize,
+    size: usize,
+    stop: usize,
+    tally: Tally,
+) -> FieldRead
+    ensures { λ r. ⌜ r ≡ record { field = lineField content offset start size stop; tally = tally } ⌝ }
 {
     let field = Field {
         content,
+        offset,
         start,
         size,
         next: stop,
@@ -91,22 +102,23 @@ fn next_line(t: &[u8], at: usize, tally: Tally) -> FieldRead
         fields: fields + 1,
     };
     if line.len() <= head_size {
-        return line_read(Content::Fault(1), 0, 0, end + 1, counted);
+        return line_read(Content::Fault(1), at, 0, 0, end + 1, counted);
     }
     let head = text::part(line, 0, head_size);
+    let second = at + head_size + 1;
     if text::same(head, b"H") {
         return next_part(
             Source::Header,
             t,
             end + 1,
-            at + head_size + 1,
+            second,
             Tally { lines, fields },
         );
     }
     if is_gaf_head(head) {
-        return line_read(gaf_line(line), at, end - at, end + 1, counted);
+        return line_read(gaf_line(line), second, at, end - at, end + 1, counted);
     }
-    line_read(Content::Fault(2), at, head_size, end + 1, counted)
+    line_read(Content::Fault(2), at, at, head_size, end + 1, counted)
 }
 
 // The next field from `at` on, of what stops at `stop` or, where that is done with, of the next line.

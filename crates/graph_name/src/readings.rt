@@ -5,7 +5,8 @@ ghost use Rattle.model.specs.Reading.{fromHeaderLines, fromTags};
 ghost use Rattle.model.specs.Outcome.{readInto, readTagsInto, refusalInto};
 ghost use Rattle.model.specs.Values.{flagged};
 
-// Reads header lines. Line, start and length are always written: the refusal's line and quoted part, or all 0.
+// Reads header lines. Line, start, length and offset are always written: the refusal's line, its quoted part, and the byte of the text at
+// which that part begins, or the line or field where none is quoted; or all 0.
 #[no_mangle]
 pub extern "C" fn graph_name_from_header_lines(
     text: &[u8],
@@ -13,17 +14,26 @@ pub extern "C" fn graph_name_from_header_lines(
     line: &mut u64,
     start: &mut u64,
     length: &mut u64,
+    offset: &mut u64,
 ) -> u32
     ensures { λ r. ⌜ r ≡ refusalInto (fromHeaderLines (now (text .entry))) (now (buffer .entry)) .number ⌝ }
     ensures { λ _. ⌜ now (buffer .exit) ≡ readInto (now (text .entry)) (now (buffer .entry)) .buffer ⌝ }
     ensures { λ _. ⌜ now (line .exit) ≡ refusalInto (fromHeaderLines (now (text .entry))) (now (buffer .entry)) .line ⌝ }
     ensures { λ _. ⌜ now (start .exit) ≡ refusalInto (fromHeaderLines (now (text .entry))) (now (buffer .entry)) .start ⌝ }
     ensures { λ _. ⌜ now (length .exit) ≡ refusalInto (fromHeaderLines (now (text .entry))) (now (buffer .entry)) .size ⌝ }
+    ensures { λ _. ⌜ now (offset .exit) ≡ refusalInto (fromHeaderLines (now (text .entry))) (now (buffer .entry)) .offset ⌝ }
 {
-    refusal_out(parse::from_header_lines(text, buffer), line, start, length)
+    refusal_out(
+        parse::from_header_lines(text, buffer),
+        line,
+        start,
+        length,
+        offset,
+    )
 }
 
-// Reads the values of the three tags, each there if its flag is not 0. Line, start and length are written likewise.
+// Reads the values of the three tags, each there if its flag is not 0. Line, start, length and offset are written likewise, places being
+// counted in a tag's value.
 #[no_mangle]
 pub extern "C" fn graph_name_from_tags(
     has_name: u32,
@@ -36,12 +46,14 @@ pub extern "C" fn graph_name_from_tags(
     line: &mut u64,
     start: &mut u64,
     length: &mut u64,
+    offset: &mut u64,
 ) -> u32
     ensures { λ r. ⌜ r ≡ refusalInto (fromTags (flagged «has_name» (now (name .entry))) (flagged «has_subgraph» (now (subgraph .entry))) (flagged «has_translation» (now (translation .entry)))) (now (buffer .entry)) .number ⌝ }
     ensures { λ _. ⌜ now (buffer .exit) ≡ readTagsInto (flagged «has_name» (now (name .entry))) (flagged «has_subgraph» (now (subgraph .entry))) (flagged «has_translation» (now (translation .entry))) (now (buffer .entry)) .buffer ⌝ }
     ensures { λ _. ⌜ now (line .exit) ≡ refusalInto (fromTags (flagged «has_name» (now (name .entry))) (flagged «has_subgraph» (now (subgraph .entry))) (flagged «has_translation» (now (translation .entry)))) (now (buffer .entry)) .line ⌝ }
     ensures { λ _. ⌜ now (start .exit) ≡ refusalInto (fromTags (flagged «has_name» (now (name .entry))) (flagged «has_subgraph» (now (subgraph .entry))) (flagged «has_translation» (now (translation .entry)))) (now (buffer .entry)) .start ⌝ }
     ensures { λ _. ⌜ now (length .exit) ≡ refusalInto (fromTags (flagged «has_name» (now (name .entry))) (flagged «has_subgraph» (now (subgraph .entry))) (flagged «has_translation» (now (translation .entry)))) (now (buffer .entry)) .size ⌝ }
+    ensures { λ _. ⌜ now (offset .exit) ≡ refusalInto (fromTags (flagged «has_name» (now (name .entry))) (flagged «has_subgraph» (now (subgraph .entry))) (flagged «has_translation» (now (translation .entry)))) (now (buffer .entry)) .offset ⌝ }
 {
     refusal_out(
         parse::from_tags(
@@ -56,5 +68,6 @@ pub extern "C" fn graph_name_from_tags(
         line,
         start,
         length,
+        offset,
     )
 }

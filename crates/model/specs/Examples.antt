@@ -37,9 +37,13 @@ named n s t = record { name = n; subgraph = s; translation = t }
 abbrev bare : String → GraphName
 bare n = named (some (text n)) [] []
 
--- a refusal: number, line, and the quoted part's start and size
-abbrev fault : ℕ → ℕ → ℕ → ℕ → Reading
-fault n l s k = refused (record { number = n; line = l; start = s; size = k })
+-- a refusal: number, line, the quoted part's start and size, and the offset
+abbrev fault : ℕ → ℕ → ℕ → ℕ → ℕ → Reading
+fault n l s k o = refused (record { number = n; line = l; start = s; size = k; offset = o })
+
+-- a name that is a byte too long
+abbrev long : Bytes
+long = replicate 257 97
 
 -- a buffer of numbers, then text, then zeros
 abbrev buffer : List ℕ → String → Bytes
@@ -47,8 +51,8 @@ buffer ns t = le16s ns ++ (text t ++ replicate (recordLength - length (le16s ns 
 
 -- an input, and what the definitions should give for it
 pub data Example : Type 0 where
-  header : String → Reading → Example
-  subgraphTag : String → Reading → Example
+  header : Bytes → Reading → Example
+  tags : Option Bytes → Option Bytes → Option Bytes → Reading → Example
   tagOf : List Pair → String → Example
   path : GraphName → GraphName → Option (List Step) → Example
   full : GraphName → GraphName → Option (List Step) → Example
@@ -58,8 +62,8 @@ pub data Example : Type 0 where
   description : GraphName → GraphName → String → String → String → Example
 
 abbrev pub Holds : Example → Type 0
-Holds (header t r) = fromHeaderLines (text t) ≡ r
-Holds (subgraphTag t r) = fromTags none (some (text t)) none ≡ r
+Holds (header t r) = fromHeaderLines t ≡ r
+Holds (tags n s t r) = fromTags n s t ≡ r
 Holds (tagOf ps t) = relationsTag ps ≡ some (text t)
 Holds (path g h r) = subgraphPath g h ≡ r
 Holds (full g h r) = fullPath g h ≡ r
@@ -77,18 +81,18 @@ All (e ∷ es) = Holds e × All es
 abbrev pub examples : List Example
 examples =
     -- examples 1 to 6
-    header "H\tNM:Z:" (done (named (some []) [] []))
-    ∷ header "@RN\t" (fault 6 1 0 4)
-    ∷ header "@RN" (fault 1 1 0 0)
-    ∷ header "H\t" (fault 3 1 2 0)
-    ∷ header "H\tSG:i:7" (done empty)
-    ∷ header "H\tSG:Z:a,b,c" (fault 4 1 2 10)
+    header (text "H\tNM:Z:") (done (named (some []) [] []))
+    ∷ header (text "@RN\t") (fault 6 1 0 4 0)
+    ∷ header (text "@RN") (fault 1 1 0 0 0)
+    ∷ header (text "H\t") (fault 3 1 2 0 2)
+    ∷ header (text "H\tSG:i:7") (done empty)
+    ∷ header (text "H\tSG:Z:a,b,c") (fault 4 1 2 10 2)
     -- 7 to 9
-    ∷ subgraphTag "" (fault 9 0 0 0)
-    ∷ subgraphTag "a,b;a,b" (done (named none (p "a" "b" ∷ []) []))
-    ∷ header "@SG\ta,b\tc" (done (named none (p "a,b" "c" ∷ []) []))
+    ∷ tags none (some (text "")) none (fault 9 0 0 0 0)
+    ∷ tags none (some (text "a,b;a,b")) none (done (named none (p "a" "b" ∷ []) []))
+    ∷ header (text "@SG\ta,b\tc") (done (named none (p "a,b" "c" ∷ []) []))
     ∷ tagOf (p "a,b" "c" ∷ []) "a,b,c"
-    ∷ subgraphTag "a,b,c" (fault 9 0 0 5)
+    ∷ tags none (some (text "a,b,c")) none (fault 9 0 0 5 0)
     -- 10 to 13
     ∷ path (bare "A") (bare "A") (some [])
     ∷ full (bare "A") (bare "A") (some [])
@@ -99,6 +103,17 @@ examples =
     -- 10 with as much room as the path's bytes need, and with a byte less
     ∷ roomy (bare "A") (bare "A") 7 (found (1 ∷ 0 ∷ 1 ∷ 0 ∷ 2 ∷ 0 ∷ 65 ∷ []))
     ∷ roomy (bare "A") (bare "A") 6 (refusal 17)
+    -- 17: where a refusal is, of header lines and of tags
+    ∷ header (text "@RN\ta\nH") (fault 1 2 0 0 6)
+    ∷ header (text "@RN\ta\nG\tb") (fault 2 2 6 1 6)
+    ∷ header (text "H\tVN:Z:1\tx") (fault 3 1 9 1 9)
+    ∷ header (text "@RN\ta\n@SG\tx") (fault 7 2 6 5 6)
+    ∷ header (text "H\tNM:Z:a\tSG:Z:b," ++ long) (fault 11 1 0 0 9)
+    ∷ header (text "@RN\ta\n@SG\tb\t" ++ long) (fault 11 2 0 0 10)
+    ∷ tags none (some (text "a,b;c")) none (fault 9 0 4 1 4)
+    ∷ tags none (some (text "a,b")) (some (text "a,b;c,d;e")) (fault 10 0 8 1 8)
+    ∷ tags none (some (text "a,b;c," ++ long)) none (fault 11 0 0 0 4)
+    ∷ tags (some long) (some (text "c")) none (fault 11 0 0 0 0)
     -- a whole record; its pairs exchanged; a name that is not used; a byte after the last body; all zeros
     ∷ layout (2 ∷ 2 ∷ 2 ∷ 0 ∷ 0 ∷ 1 ∷ 1 ∷ 1 ∷ 0 ∷ 1 ∷ 1 ∷ 0 ∷ []) "ab" (some (named (some (text "b")) (p "a" "b" ∷ p "b" "a" ∷ []) []))
     ∷ layout (2 ∷ 2 ∷ 2 ∷ 0 ∷ 0 ∷ 1 ∷ 1 ∷ 1 ∷ 1 ∷ 0 ∷ 0 ∷ 1 ∷ []) "ab" none
@@ -120,4 +135,4 @@ examples =
 pub examples-hold : All examples
 unfolding opened fromHeaderLines linesFrom withoutLastEmpty lineFields typedFields typedField gafLine split sameBytes compareBytes compareNumbers judge names insertAll insert comparePairs fromTags nameValue tagValue tagRelations relationsTag moreRelations subgraphPath fullPath bestPath pathFrom firstPath firstOf leaving leavingBy describeRelationship decimal digits stepsFrom afterLastEmpty stepLines graphLines strict strictFields fineField matches after nullable valueOf le16s askSubgraph pathBytes pathEntries pathBodies decode isValid ascends shown pairsFrom nameAt encode contents entries pairPlaces placeOf
 examples-hold =
-    (refl, (refl, (refl, (refl, (refl, (refl, (refl, (refl, (refl, (refl, (refl, (refl, (refl, (refl, (refl, (refl, (refl, (refl, (refl, (refl, (refl, (refl, (refl, (refl, (refl, (refl, (refl, (refl, (refl, (refl, (refl, tt)))))))))))))))))))))))))))))))
+    (refl, (refl, (refl, (refl, (refl, (refl, (refl, (refl, (refl, (refl, (refl, (refl, (refl, (refl, (refl, (refl, (refl, (refl, (refl, (refl, (refl, (refl, (refl, (refl, (refl, (refl, (refl, (refl, (refl, (refl, (refl, (refl, (refl, (refl, (refl, (refl, (refl, (refl, (refl, (refl, (refl, tt)))))))))))))))))))))))))))))))))))))))))

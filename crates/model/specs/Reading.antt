@@ -11,12 +11,14 @@ use Rattle.model.specs.declared.Kind.{Kind}
 use Rattle.model.specs.declared.Kind.the-variants.{Subgraph, Translation}
 use Rattle.model.specs.Record.{Pair, GraphName, empty, withName, withPair, judge}
 
--- a refusal of a reading: its number, the line (from 1; 0 for tags), and the quoted part, as a place in the text
+-- a refusal of a reading: its number, the line (from 1; 0 for tags), the quoted part, as a place in the text, and the offset of what is
+-- refused: a byte of the whole text, or of its tag's value
 pub record Refusal : Type 0 where
   pub number : ℕ
   pub line : ℕ
   pub start : ℕ
   pub size : ℕ
+  pub offset : ℕ
 
 pub data Reading : Type 0 where
   done : GraphName → Reading
@@ -81,28 +83,33 @@ abbrev pub afterReading : Reading → (GraphName → Reading) → Reading
 afterReading (done g) go = go g
 afterReading (refused r) go = refused r
 
--- a fault of 1 to 10 quotes the part from `start`, `size` long; one of 11 to 14 quotes nothing
-abbrev pub refuse : ℕ → ℕ → ℕ → ℕ → Reading
-refuse line start size n =
-    refused (record { number = n; line = line; start = cond (ltb 10 n) 0 start; size = cond (ltb 10 n) 0 size })
+-- the faults that quote a part of the text: 2 to 10
+abbrev pub quotes : ℕ → Bool
+quotes n = leb 2 n && leb n 10
+
+-- a fault in what begins at `begin`, which is the line for 1 and the field for 11 to 14: these quote nothing, and have its offset; 2 to 10
+-- quote the part from `start`, `size` long, and have the offset of that
+abbrev pub refuse : ℕ → ℕ → ℕ → ℕ → ℕ → Reading
+refuse line begin start size n =
+    refused (record { number = n; line = line; start = cond (quotes n) start 0; size = cond (quotes n) size 0; offset = cond (quotes n) start begin })
 
 -- the fields of an `H` line, from the left; the first of them begins at `start`
 unfoldable pub typedFields : ℕ → ℕ → List Bytes → GraphName → Reading
 typedFields line start [] g = done g
 typedFields line start (f ∷ fs) g =
-    afterTaken (typedField g f) (typedFields line (start + length f + 1) fs) (refuse line start (length f))
+    afterTaken (typedField g f) (typedFields line (start + length f + 1) fs) (refuse line start start (length f))
 
 abbrev pub isGafHead : Bytes → Bool
 isGafHead f = eqb (length f) 3 && eqb (getD f 0 0) 64
 
--- one line that begins at `start`, by its fields
+-- one line that begins at `start`, by its fields; an `@` line counts as one field, which begins with the second
 unfoldable pub lineFields : ℕ → ℕ → Bytes → List Bytes → GraphName → Reading
-lineFields line start whole [] g = refused (record { number = 1; line = line; start = 0; size = 0 })
-lineFields line start whole (head ∷ []) g = refused (record { number = 1; line = line; start = 0; size = 0 })
+lineFields line start whole [] g = refuse line start 0 0 1
+lineFields line start whole (head ∷ []) g = refuse line start 0 0 1
 lineFields line start whole (head ∷ f ∷ fs) g =
     cond (sameBytes head (text "H")) (typedFields line (start + length head + 1) (f ∷ fs) g)
-    (cond (isGafHead head) (afterTaken (gafLine g head (f ∷ fs)) done (refuse line start (length whole)))
-    (refuse line start (length head) 2))
+    (cond (isGafHead head) (afterTaken (gafLine g head (f ∷ fs)) done (refuse line (start + length head + 1) start (length whole)))
+    (refuse line start start (length head) 2))
 
 unfoldable pub linesFrom : ℕ → ℕ → List Bytes → GraphName → Reading
 linesFrom line start [] g = done g
@@ -122,15 +129,16 @@ fromHeaderLines t = linesFrom 1 0 (withoutLastEmpty (split 10 t)) empty
 unfoldable pub tagRelations : ℕ → (GraphName → Option Pair → Option GraphName) → ℕ → List Bytes → GraphName → Reading
 tagRelations n add start [] g = done g
 tagRelations n add start (r ∷ rs) g =
-    afterTaken (orWrong n (add g (twoParts (split 44 r)))) (tagRelations n add (start + length r + 1) rs) (refuse 0 start (length r))
+    afterTaken (orWrong n (add g (twoParts (split 44 r)))) (tagRelations n add (start + length r + 1) rs) (refuse 0 start start (length r))
 
 unfoldable pub tagValue : ℕ → (GraphName → Option Pair → Option GraphName) → Option Bytes → GraphName → Reading
 tagValue n add none g = done g
 tagValue n add (some v) g = tagRelations n add 0 (split 59 v) g
 
+-- the own name, which begins at 0
 unfoldable pub nameValue : Option Bytes → GraphName → Reading
 nameValue none g = done g
-nameValue (some v) g = afterTaken (judged (withName v g)) done (refuse 0 0 0)
+nameValue (some v) g = afterTaken (judged (withName v g)) done (refuse 0 0 0 0)
 
 unfoldable pub fromTags : Option Bytes → Option Bytes → Option Bytes → Reading
 fromTags n s t =

@@ -1,11 +1,12 @@
 -- The laws that the definitions must be shown to have, each as a type.
 use mathlib.Core.Path.{_≡_}
-use mathlib.Core.Bool.{true}
+use mathlib.Core.Bool.{Bool, true, false, cond, _&&_, _||_}
 use mathlib.Core.Logic.{_⊎_, _↔_, _≢_}
 use mathlib.Core.List.{List, [], _∷_, List·Memᴰ}
 use mathlib.Core.Option.{Option, some, none}
-use Prim.Native.Nat.{ℕ, zero, suc, _≤_, _<_}
-use lib.ListN.{length, take, getD, replicate}
+use Prim.Native.Nat.{ℕ, zero, suc, _+_, _-_, _≤_, _<_}
+use lib.ListN.{length, take, drop, getD, replicate}
+use lib.Dec.{eqb, leb}
 use Rattle.model.specs.Text.{text}
 use Rattle.model.specs.Bytes.{Bytes, compareBytes, split}
 use Rattle.model.specs.declared.Order.{Order}
@@ -14,9 +15,9 @@ use Rattle.model.specs.declared.Kind.{Kind}
 use Rattle.model.specs.declared.Kind.the-variants.{Subgraph, Translation}
 use Rattle.model.specs.declared.Strictness.{Strictness}
 use Rattle.model.specs.declared.Strictness.the-variants.{Fine, Faulty}
-use Rattle.model.specs.Record.{Pair, GraphName, comparePairs, judge, names}
+use Rattle.model.specs.Record.{Pair, GraphName, empty, comparePairs, judge, names}
 use Rattle.model.specs.Layout.{recordLength, encode, decode}
-use Rattle.model.specs.Reading.{done, fromHeaderLines, fromTags}
+use Rattle.model.specs.Reading.{Refusal, Reading, done, refused, addTo, quotes, typedFields, lineFields, fromHeaderLines, tagRelations, fromTags}
 use Rattle.model.specs.Writing.{toGfaHeaderLines, toGafHeaderLines, relationsTag}
 use Rattle.model.specs.Path.{Step, pathBytes}
 use Rattle.model.specs.Outcome.{Outcome, readInto, readTagsInto, refusalInto, newRecord, addSubgraph, addTranslation, addRelationships, makeSubgraphOf, addTranslationTo}
@@ -70,6 +71,61 @@ abbrev pub TagsReadBack : Type 0
 TagsReadBack =
     (g : GraphName) → Valid g → AllPairNames (λ n. (n ≢ []) × Without 44 n × Without 59 n) g
     → fromTags (g .name) (relationsTag (g .subgraph)) (relationsTag (g .translation)) ≡ done g
+
+-- ------------------------------------------------------------------ where a refusal is
+
+-- a part between separators begins at i: behind one, or with the text
+abbrev pub Behind : ℕ → Bytes → ℕ → Type 0
+Behind sep t i = (0 < i) × (getD t (i - 1) 0 ≡ sep)
+
+abbrev pub Begins : ℕ → Bytes → ℕ → Type 0
+Begins sep t i = (i ≡ 0) ⊎ Behind sep t i
+
+-- what stands at the offset, as long as what is quoted
+abbrev pub standing : Bytes → Refusal → Bytes
+standing t r = take (r .size) (drop (r .offset) t)
+
+-- the quoted part is what stands there, and read by itself it is refused in this very way
+pub record Quoted (t : Bytes) (r : Refusal) (read : Bytes → Reading) : Type 0 where
+  pub start : r .start ≡ r .offset
+  pub within : r .offset + r .size ≤ length t
+  pub alone : read (standing t r) ≡ refused r
+
+-- a part of header lines read by itself, as its number quotes it: a line's first field, a field of an `H` line, a whole line
+abbrev pub partAlone : Refusal → Bytes → Reading
+partAlone r w =
+    cond (eqb (r .number) 2) (lineFields (r .line) (r .offset) w (w ∷ [] ∷ []) empty)
+    (cond (leb (r .number) 5) (typedFields (r .line) (r .offset) (w ∷ []) empty)
+    (lineFields (r .line) (r .offset) w (split 9 w) empty))
+
+-- the numbers whose offset is that of a line; the others of header lines have that of a field
+abbrev pub ofLine : ℕ → Bool
+ofLine n = leb n 2 || (leb 6 n && leb n 8)
+
+pub record PlacedInLines (t : Bytes) (r : Refusal) : Type 0 where
+  pub inside : r .offset ≤ length t
+  pub quoted : quotes (r .number) ≡ true → Quoted t r (partAlone r)
+  pub line : ofLine (r .number) ≡ true → Begins 10 t (r .offset)
+  pub field : ofLine (r .number) ≡ false → Behind 9 t (r .offset)
+
+-- a relation of a tag's value begins at the offset; it is the quoted one
+abbrev pub BeginsIn : Option Bytes → Refusal → Type 0
+BeginsIn none r = ⊥
+BeginsIn (some v) r = (r .offset ≤ length v) × Begins 59 v (r .offset)
+
+abbrev pub QuotedIn : Kind → Option Bytes → Refusal → Type 0
+QuotedIn k none r = ⊥
+QuotedIn k (some v) r = Quoted v r (λ w. tagRelations (r .number) (addTo k) (r .offset) (w ∷ []) empty)
+
+-- of 11 to 14 the offset is counted in either tag, or is 0, as it is of the own name
+pub record PlacedInTags (s t : Option Bytes) (r : Refusal) : Type 0 where
+  pub subgraph : r .number ≡ 9 → BeginsIn s r × QuotedIn Subgraph s r
+  pub translation : r .number ≡ 10 → BeginsIn t r × QuotedIn Translation t r
+  pub sizes : 10 < r .number → (r .offset ≡ 0) ⊎ (BeginsIn s r ⊎ BeginsIn t r)
+
+pub record OffsetRight : Type 0 where
+  pub header-lines : (t : Bytes) (r : Refusal) → fromHeaderLines t ≡ refused r → PlacedInLines t r
+  pub tags : (n s t : Option Bytes) (r : Refusal) → fromTags n s t ≡ refused r → PlacedInTags s t r
 
 -- ------------------------------------------------------------------ numbers and refusals (demand 1)
 

@@ -9,6 +9,7 @@ use lib.Dec.{lit≤, eqb, ltb}
 use lib.ListN.{length, take, drop, getD}
 use borrow.Author.Tests.{eqb-true, eqb-false}
 use Rattle.model.specs.Text.{text}
+use Rattle.text.proofs.Tests.{either-way}
 use Rattle.record.proofs.Opening.{written-opened, written-refused}
 use Rattle.model.specs.Opening.{hasSize}
 use Rattle.model.specs.Layout.{recordLength}
@@ -26,17 +27,13 @@ abbrev pub Small : Reading → Type 0
 Small (done g) = judge g ≡ 0
 Small (refused r) = r .number ≤ 14
 
-either : {A : Type 0} (P : A → Type 0) (t : Bool) (a b : A) → P a → P b → P (cond t a b)
-either P true a b p q = p
-either P false a b p q = q
-
 pub judge-small : (g : GraphName) → judge g ≤ 14
 unfolding judge
 judge-small g =
-    either (λ n. n ≤ 14) (anyLong (names g)) 11 _ (lit≤ tt)
-    (either (λ n. n ≤ 14) (ltb maxNames (length (names g))) 12 _ (lit≤ tt)
-    (either (λ n. n ≤ 14) (ltb maxPairs (length (g .subgraph)) || ltb maxPairs (length (g .translation))) 13 _ (lit≤ tt)
-    (either (λ n. n ≤ 14) (ltb maxBodiesBytes (length (bodies (names g)))) 14 0 (lit≤ tt) (lit≤ tt))))
+    either-way (λ n. n ≤ 14) (anyLong (names g)) 11 _ (lit≤ tt)
+    (either-way (λ n. n ≤ 14) (ltb maxNames (length (names g))) 12 _ (lit≤ tt)
+    (either-way (λ n. n ≤ 14) (ltb maxPairs (length (g .subgraph)) || ltb maxPairs (length (g .translation))) 13 _ (lit≤ tt)
+    (either-way (λ n. n ≤ 14) (ltb maxBodiesBytes (length (bodies (names g)))) 14 0 (lit≤ tt) (lit≤ tt))))
 
 judged-small : (g : GraphName) → SmallTaken (judged g)
 judged-small g = go (eqb (judge g) 0) refl
@@ -52,22 +49,22 @@ orWrong-small n h (some g) = judged-small g
 typedField-small : (g : GraphName) → judge g ≡ 0 → (f : Bytes) → SmallTaken (typedField g f)
 unfolding typedField
 typedField-small g h f =
-    either SmallTaken (not (isTyped f)) (wrong 3) _ (lit≤ tt)
-    (either SmallTaken (not (eqb (getD f 3 0) 90)) (took g) _ h
-    (either SmallTaken (sameBytes (take 2 f) (text "NM")) (judged (withName (drop 5 f) g)) _ (judged-small (withName (drop 5 f) g))
-    (either SmallTaken (sameBytes (take 2 f) (text "SG")) _ _ (orWrong-small 4 (lit≤ tt) (addTo Subgraph g (twoParts (split 44 (drop 5 f)))))
-    (either SmallTaken (sameBytes (take 2 f) (text "TL")) _ (took g) (orWrong-small 5 (lit≤ tt) (addTo Translation g (twoParts (split 44 (drop 5 f))))) h))))
+    either-way SmallTaken (not (isTyped f)) (wrong 3) _ (lit≤ tt)
+    (either-way SmallTaken (not (eqb (getD f 3 0) 90)) (took g) _ h
+    (either-way SmallTaken (sameBytes (take 2 f) (text "NM")) (judged (withName (drop 5 f) g)) _ (judged-small (withName (drop 5 f) g))
+    (either-way SmallTaken (sameBytes (take 2 f) (text "SG")) _ _ (orWrong-small 4 (lit≤ tt) (addTo Subgraph g (twoParts (split 44 (drop 5 f)))))
+    (either-way SmallTaken (sameBytes (take 2 f) (text "TL")) _ (took g) (orWrong-small 5 (lit≤ tt) (addTo Translation g (twoParts (split 44 (drop 5 f))))) h))))
 
 gafLine-small : (g : GraphName) → judge g ≡ 0 → (head : Bytes) (rest : List Bytes) → SmallTaken (gafLine g head rest)
 unfolding gafLine
 gafLine-small g h head rest =
-    either SmallTaken (sameBytes head (text "@RN")) _ _ (orWrong-small 6 (lit≤ tt) (oneName g rest))
-    (either SmallTaken (sameBytes head (text "@SG")) _ _ (orWrong-small 7 (lit≤ tt) (addTo Subgraph g (twoParts rest)))
-    (either SmallTaken (sameBytes head (text "@TL")) _ (took g) (orWrong-small 8 (lit≤ tt) (addTo Translation g (twoParts rest))) h))
+    either-way SmallTaken (sameBytes head (text "@RN")) _ _ (orWrong-small 6 (lit≤ tt) (oneName g rest))
+    (either-way SmallTaken (sameBytes head (text "@SG")) _ _ (orWrong-small 7 (lit≤ tt) (addTo Subgraph g (twoParts rest)))
+    (either-way SmallTaken (sameBytes head (text "@TL")) _ (took g) (orWrong-small 8 (lit≤ tt) (addTo Translation g (twoParts rest))) h))
 
-taken-small : (x : Taken) (go : GraphName → Reading) (line start size : ℕ) → SmallTaken x → ((g : GraphName) → judge g ≡ 0 → Small (go g)) → Small (afterTaken x go (refuse line start size))
-taken-small (took g) go line start size s k = k g s
-taken-small (wrong n) go line start size s k = s
+taken-small : (x : Taken) (go : GraphName → Reading) (line begin start size : ℕ) → SmallTaken x → ((g : GraphName) → judge g ≡ 0 → Small (go g)) → Small (afterTaken x go (refuse line begin start size))
+taken-small (took g) go line begin start size s k = k g s
+taken-small (wrong n) go line begin start size s k = s
 
 reading-small : (x : Reading) (go : GraphName → Reading) → Small x → ((g : GraphName) → judge g ≡ 0 → Small (go g)) → Small (afterReading x go)
 reading-small (done g) go s k = k g s
@@ -77,15 +74,15 @@ typedFields-small : (line start : ℕ) (fs : List Bytes) (g : GraphName) → jud
 unfolding typedFields
 typedFields-small line start [] g h = h
 typedFields-small line start (f ∷ fs) g h =
-    taken-small (typedField g f) (typedFields line (start + length f + 1) fs) line start (length f) (typedField-small g h f) (typedFields-small line (start + length f + 1) fs)
+    taken-small (typedField g f) (typedFields line (start + length f + 1) fs) line start start (length f) (typedField-small g h f) (typedFields-small line (start + length f + 1) fs)
 
 lineFields-small : (line start : ℕ) (whole : Bytes) (fs : List Bytes) (g : GraphName) → judge g ≡ 0 → Small (lineFields line start whole fs g)
 unfolding lineFields
 lineFields-small line start whole [] g h = lit≤ tt
 lineFields-small line start whole (head ∷ []) g h = lit≤ tt
 lineFields-small line start whole (head ∷ f ∷ fs) g h =
-    either Small (sameBytes head (text "H")) _ _ (typedFields-small line (start + length head + 1) (f ∷ fs) g h)
-    (either Small (isGafHead head) _ _ (taken-small (gafLine g head (f ∷ fs)) done line start (length whole) (gafLine-small g h head (f ∷ fs)) (λ g′ k. k)) (lit≤ tt))
+    either-way Small (sameBytes head (text "H")) _ _ (typedFields-small line (start + length head + 1) (f ∷ fs) g h)
+    (either-way Small (isGafHead head) _ _ (taken-small (gafLine g head (f ∷ fs)) done line (start + length head + 1) start (length whole) (gafLine-small g h head (f ∷ fs)) (λ g′ k. k)) (lit≤ tt))
 
 linesFrom-small : (line start : ℕ) (ls : List Bytes) (g : GraphName) → judge g ≡ 0 → Small (linesFrom line start ls g)
 unfolding linesFrom
@@ -105,7 +102,7 @@ relations-small : (n : ℕ) → n ≤ 14 → (add : GraphName → Option Pair �
 unfolding tagRelations
 relations-small n h add start [] g k = k
 relations-small n h add start (r ∷ rs) g k =
-    taken-small (orWrong n (add g (twoParts (split 44 r)))) (tagRelations n add (start + length r + 1) rs) 0 start (length r)
+    taken-small (orWrong n (add g (twoParts (split 44 r)))) (tagRelations n add (start + length r + 1) rs) 0 start start (length r)
     (orWrong-small n h (add g (twoParts (split 44 r)))) (relations-small n h add (start + length r + 1) rs)
 
 value-small : (n : ℕ) → n ≤ 14 → (add : GraphName → Option Pair → Option GraphName) (v : Option Bytes) (g : GraphName) → judge g ≡ 0 → Small (tagValue n add v g)
@@ -116,7 +113,7 @@ value-small n h add (some v) g k = relations-small n h add 0 (split 59 v) g k
 name-small : (v : Option Bytes) (g : GraphName) → judge g ≡ 0 → Small (nameValue v g)
 unfolding nameValue
 name-small none g h = h
-name-small (some v) g h = taken-small (judged (withName v g)) done 0 0 0 (judged-small (withName v g)) (λ g′ k. k)
+name-small (some v) g h = taken-small (judged (withName v g)) done 0 0 0 0 (judged-small (withName v g)) (λ g′ k. k)
 
 pub tags-small : (n s t : Option Bytes) → Small (fromTags n s t)
 unfolding fromTags

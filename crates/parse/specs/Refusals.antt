@@ -8,11 +8,11 @@ use Rattle.parse.specs.declared.finish.Answer.{Answer}
 use Rattle.parse.specs.declared.finish.Answer.the-variants.{Done, Refused}
 
 abbrev pub refusalGiven : Given → Refusal
-refusalGiven r = record { number = r .number; line = r .line; start = r .start; size = r .size }
+refusalGiven r = record { number = r .number; line = r .line; start = r .start; size = r .size; offset = r .offset }
 
--- a refusal that has no line and quotes nothing
+-- a refusal that has no line and quotes nothing, at the front of what is read
 abbrev pub unplaced : ℕ → Refusal
-unplaced number = refusalOf (refuse 0 0 0 number)
+unplaced number = refusalOf (refuse 0 0 0 0 number)
 
 -- the refusal, or that of a reading that is done
 abbrev pub refusalIn : Answer → Refusal

@@ -3,16 +3,19 @@ use fields::Field;
 use fields::Tally;
 use intake::State;
 ghost use mathlib.Core.Path.{_≡_};
+ghost use Rattle.model.specs.Reading.{quotes};
 ghost use Rattle.model.specs.Outcome.{refusalOf};
 ghost use Rattle.fields.specs.Rest.{refuseField};
 ghost use Rattle.parse.specs.Refusals.{refusalGiven, unplaced};
 
-// A refusal: its number, its line (from 1; 0 for none), and the part of the text that it quotes.
+// A refusal: its number, its line (from 1; 0 for none), the part of the text that it quotes, and its offset: the byte of the text at which
+// that part begins, or the line or field where none is quoted.
 pub struct Refusal {
     pub number: usize,
     pub line: usize,
     pub start: usize,
     pub size: usize,
+    pub offset: usize,
 }
 
 // How a reading ends.
@@ -21,28 +24,37 @@ pub(crate) enum Ended {
     Refused(Refusal),
 }
 
-// The refusal of a field, counted by a tally: numbers over 10 quote nothing.
+// Whether a refusal quotes a part of the text.
+fn quotes_part(number: usize) -> bool
+    ensures { λ r. ⌜ r ≡ quotes number ⌝ }
+{
+    2 <= number && number <= 10
+}
+
+// The refusal of a field, counted by a tally: it quotes the field's part and has the offset of that, or quotes nothing and has the field's.
 pub(crate) fn refuse(number: usize, field: Field, tally: Tally) -> Refusal
     ensures { λ r. ⌜ refusalGiven r ≡ refusalOf (refuseField field tally number) ⌝ }
 {
     let line = tally.lines;
-    if 10 < number {
+    if quotes_part(number) {
         return Refusal {
             number,
             line,
-            start: 0,
-            size: 0,
+            start: field.start,
+            size: field.size,
+            offset: field.start,
         };
     }
     Refusal {
         number,
         line,
-        start: field.start,
-        size: field.size,
+        start: 0,
+        size: 0,
+        offset: field.offset,
     }
 }
 
-// A refusal that has no line and quotes nothing.
+// A refusal that has no line and quotes nothing, at the front of what is read.
 pub(crate) fn refuse_unplaced(number: usize) -> Refusal
     ensures { λ r. ⌜ refusalGiven r ≡ unplaced number ⌝ }
 {
@@ -51,5 +63,6 @@ pub(crate) fn refuse_unplaced(number: usize) -> Refusal
         line: 0,
         start: 0,
         size: 0,
+        offset: 0,
     }
 }

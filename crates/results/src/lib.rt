@@ -1,6 +1,6 @@
 // Answers handed out: an enum of a layer below as the number that an exported function returns and the numbers behind its pointers.
 //
-// A number behind a `&mut u64` is written on 0 only, but for the three of a reading, which are always written.
+// A number behind a `&mut u64` is written on 0 only, but for the four of a reading, which are always written.
 mod questions;
 mod readings;
 mod records;

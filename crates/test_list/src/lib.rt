@@ -39,6 +39,7 @@ pub use lines::place_of;
 pub use lines::rest;
 pub use lines::tail;
 pub use lines::upto;
+pub use numbers::are_five;
 pub use numbers::are_four;
 pub use numbers::are_seven;
 pub use numbers::are_two;

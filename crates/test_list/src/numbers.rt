@@ -16,9 +16,14 @@ pub fn are_four(n: &[u8], result: u32, a: u64, b: u64, c: u64) -> bool {
     are_two(n, result, a) && is(n, 2, b) && is(n, 3, c)
 }
 
+// Whether the first five numbers are so.
+pub fn are_five(n: &[u8], result: u32, a: u64, b: u64, c: u64, d: u64) -> bool {
+    are_four(n, result, a, b, c) && is(n, 4, d)
+}
+
 // Whether the first seven numbers are so.
 pub fn are_seven(n: &[u8], result: u32, a: u64, b: u64, c: u64, d: u64, e: u64, f: u64) -> bool {
-    are_four(n, result, a, b, c) && is(n, 4, d) && is(n, 5, e) && is(n, 6, f)
+    are_five(n, result, a, b, c, d) && is(n, 5, e) && is(n, 6, f)
 }
 
 // The number at a place, as one of 32 bits.

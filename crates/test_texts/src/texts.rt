@@ -4,7 +4,7 @@ use test_list::ONE;
 use test_list::THREE;
 use test_list::TWO;
 use test_list::UNWRITTEN;
-use test_list::are_four;
+use test_list::are_five;
 use test_list::are_two;
 use test_list::held;
 use test_list::narrow;
@@ -15,14 +15,16 @@ fn from_header_lines(one: &[u8], n: &[u8], out: &mut [u8]) -> bool {
     let mut line = UNWRITTEN;
     let mut start = UNWRITTEN;
     let mut length = UNWRITTEN;
+    let mut offset = UNWRITTEN;
     let result = graph_name::graph_name_from_header_lines(
         one,
         out,
         &mut line,
         &mut start,
         &mut length,
+        &mut offset,
     );
-    are_four(n, result, line, start, length)
+    are_five(n, result, line, start, length, offset)
 }
 
 // Whether `graph_name_from_tags` answers so.
@@ -30,19 +32,21 @@ fn from_tags(one: &[u8], two: &[u8], three: &[u8], n: &[u8], out: &mut [u8]) -> 
     let mut line = UNWRITTEN;
     let mut start = UNWRITTEN;
     let mut length = UNWRITTEN;
+    let mut offset = UNWRITTEN;
     let result = graph_name::graph_name_from_tags(
-        narrow(n, 4),
-        one,
         narrow(n, 5),
-        two,
+        one,
         narrow(n, 6),
+        two,
+        narrow(n, 7),
         three,
         out,
         &mut line,
         &mut start,
         &mut length,
+        &mut offset,
     );
-    are_four(n, result, line, start, length)
+    are_five(n, result, line, start, length, offset)
 }
 
 // Whether `graph_name_error_message` answers so.

@@ -56,6 +56,12 @@ returns c = rw (c .line-read .ensures) (short-read (line (c .before .before)) (c
 part-requires-2 : tie.Need-part-requires-2
 part-requires-2 c κs = search needs
 
+add-second : tie.Need-add-second
+add-second c = search needs
+
+add-second-2 : tie.Need-add-second-2
+add-second-2 c = search needs
+
 slice-aggregate-same : tie.Need-slice-aggregate-same
 slice-aggregate-same c = search needs
 
@@ -64,12 +70,6 @@ same-requires c κs = search needs
 
 add-next-part : tie.Need-add-next-part
 add-next-part c = omega (arith, ends (line (tested (c .before))))
-
-add-next-part-2 : tie.Need-add-next-part-2
-add-next-part-2 c = search needs
-
-add-next-part-3 : tie.Need-add-next-part-3
-add-next-part-3 c = search needs
 
 next-part-requires : tie.Need-next-part-requires
 next-part-requires c κs = let s = c .before in second-position (line (tested s)) (s .before .before .before .if1 .left)
@@ -134,11 +134,11 @@ next-line-spec =
     line-read-requires
     returns
     part-requires-2
+    add-second
+    add-second-2
     slice-aggregate-same
     same-requires
     add-next-part
-    add-next-part-2
-    add-next-part-3
     next-part-requires
     returns-2
     is-gaf-head-requires

@@ -2,7 +2,7 @@
 use mathlib.Core.Path.{_≡_, refl}
 use mathlib.Core.Bool.{Bool, true, false, cond}
 use Prim.Native.Nat.{ℕ}
-use lib.Dec.{ltb}
+use Rattle.model.specs.Reading.{quotes}
 use Rattle.parse.proofs.ending.refuse_unplaced.Statement.{statement}
 use Rattle.parse.proofs.ending.refuse_unplaced.Tie as tie
 
@@ -11,7 +11,7 @@ none true = refl
 none false = refl
 
 returns : tie.Need-returns
-returns c = rw (none (ltb 10 (c .args .number)))
+returns c = rw (none (quotes (c .args .number)))
 
 pub refuse-unplaced-spec : {M : Type 1} → statement M
 refuse-unplaced-spec = tie.close (tie.spec returns)

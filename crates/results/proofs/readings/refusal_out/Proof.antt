@@ -18,12 +18,12 @@ cast-result c =
 returns : tie.Need-returns
 returns c =
     let e = c .enum-told .given .1 in
-    (rw e, (rw e, (rw e, rw e)))
+    (rw e, (rw e, (rw e, (rw e, rw e))))
 
 returns-2 : tie.Need-returns-2
 returns-2 c =
     let e = c .before .before .answer .given .1 in
-    (rw e, (rw e, (rw e, rw e)))
+    (rw e, (rw e, (rw e, (rw e, rw e))))
 
 pub refusal-out-spec : {M : Type 1} → statement M
 refusal-out-spec = tie.close (tie.spec enum-told enum-known-answer cast-result returns returns-2)

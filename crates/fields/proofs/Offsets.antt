@@ -1,0 +1,354 @@
+-- Where a refusal is (`OffsetRight`): a field that is wrong stands at its offset, and is wrong by itself, whatever was read before it.
+use mathlib.Core.Path.{_≡_, refl, sym, subst, _∙_}
+use mathlib.Core.Logic.{_⊎_, inl, inr, ⊎-elim}
+use mathlib.Core.Bool.{Bool, true, false, cond, not, _||_, false≢true}
+use mathlib.Core.List.{List, [], _∷_}
+use mathlib.Core.Option.{Option, some, none}
+use Prim.Native.Nat.{ℕ, suc, _+_, _-_, _≤_, _<_}
+use native.Mathlib.Omega.{arith}
+use lib.Dec.{eqb, ltb, leb}
+use lib.ListN.{length, take, drop, getD}
+use borrow.Author.Tests.{eqb-false, ne-eqb, le-leb, lt-leb}
+use Rattle.model.specs.declared.Kind.{Kind}
+use Rattle.model.specs.declared.Kind.the-variants.{Subgraph, Translation}
+use Rattle.model.specs.Text.{text}
+use Rattle.model.specs.Bytes.{Bytes, sameBytes, isEmpty, split}
+use Rattle.model.specs.Record.{Pair, GraphName, empty, withName, withPair, names, anyLong, bodies, judge, maxNames, maxPairs, maxBodiesBytes}
+use Rattle.model.specs.Reading.{Refusal, Reading, done, refused, Taken, took, wrong, judged, twoParts, orWrong, addTo, isTyped, typedField, isGafHead, gafLine, afterTaken, afterReading, quotes, refuse, typedFields, lineFields, linesFrom, withoutLastEmpty, fromHeaderLines, tagRelations, tagValue, nameValue, fromTags}
+use Rattle.model.specs.Statements.{Behind, Begins, standing, Quoted, partAlone, ofLine, PlacedInLines, BeginsIn, QuotedIn, PlacedInTags, OffsetRight}
+use Rattle.text.proofs.Tests.{either-way}
+use Rattle.fields.specs.Fields.{FieldMeaning, fault, nothing, named, related, apply, relatedBy, relatedByTag, oneNamed, classifyString, classifyTyped, classifyGaf}
+use Rattle.fields.proofs.Classified.{typed-classified, gaf-classified, relation-classified}
+use Rattle.fields.proofs.Standing.{Stands, all-stands, Follow, Parts, follow-from, split-stands, without-last}
+
+-- ------------------------------------------------------------------ the numbers of faults
+
+-- sizes are within, or refused with a number over 10
+abbrev SizeNumber : ℕ → Type 0
+SizeNumber n = (n ≡ 0) ⊎ (10 < n)
+
+judge-sizes : (g : GraphName) → SizeNumber (judge g)
+unfolding judge
+judge-sizes g =
+    either-way SizeNumber (anyLong (names g)) 11 _ (inr (omega arith))
+    (either-way SizeNumber (ltb maxNames (length (names g))) 12 _ (inr (omega arith))
+    (either-way SizeNumber (ltb maxPairs (length (g .subgraph)) || ltb maxPairs (length (g .translation))) 13 _ (inr (omega arith))
+    (either-way SizeNumber (ltb maxBodiesBytes (length (bodies (names g)))) 14 0 (inr (omega arith)) (inl refl))))
+
+-- nothing that is taken is wrong
+abbrev IsTook : Taken → Type 0
+IsTook (took g) = Unit {0}
+IsTook (wrong n) = ⊥
+
+took-right : (g : GraphName) (n : ℕ) → took g ≡ wrong n → ⊥
+took-right g n e = subst IsTook e tt
+
+judged-wrong : (g : GraphName) (n : ℕ) → judged g ≡ wrong n → 10 < n
+judged-wrong g n = go (eqb (judge g) 0) refl
+  where
+    go : (b : Bool) → eqb (judge g) 0 ≡ b → cond b (took g) (wrong (judge g)) ≡ wrong n → 10 < n
+    go true e w = absurd (took-right g n w)
+    go false e w =
+        let s : judge g ≡ n = cc in
+        ⊎-elim (λ (z : judge g ≡ 0). absurd (eqb-false (judge g) 0 e z)) (λ (l : 10 < judge g). rw s at l) (judge-sizes g)
+
+-- a field is wrong by itself, or the sizes are
+apply-wrong : (g : GraphName) (m : FieldMeaning) (n : ℕ) → apply g m ≡ wrong n → (m ≡ fault n) ⊎ (10 < n)
+apply-wrong g (fault k) n e = inl cc
+apply-wrong g nothing n e = absurd (took-right g n e)
+apply-wrong g (named w) n e = inr (judged-wrong (withName w g) n e)
+apply-wrong g (related k p) n e = inr (judged-wrong (withPair k p g) n e)
+
+-- its own fault is one of a range
+abbrev FaultIn : ℕ → ℕ → FieldMeaning → Type 0
+FaultIn lo hi (fault n) = (lo ≤ n) × (n ≤ hi)
+FaultIn lo hi nothing = Unit {0}
+FaultIn lo hi (named w) = Unit {0}
+FaultIn lo hi (related k p) = Unit {0}
+
+related-in : (lo hi n : ℕ) → lo ≤ n → n ≤ hi → (k : Kind) (p : Option Pair) → FaultIn lo hi (relatedBy k n p)
+related-in lo hi n l h k none = (l, h)
+related-in lo hi n l h k (some p) = tt
+
+tagged-in : (lo hi n m : ℕ) → lo ≤ n → n ≤ hi → lo ≤ m → m ≤ hi → (tag : Bytes) (ws : List Bytes) → FaultIn lo hi (relatedByTag tag n m ws)
+tagged-in lo hi n m ln nh lm mh tag ws =
+    either-way (FaultIn lo hi) (sameBytes tag (text "SG")) _ _ (related-in lo hi n ln nh Subgraph (twoParts ws))
+    (either-way (FaultIn lo hi) (sameBytes tag (text "TL")) _ nothing (related-in lo hi m lm mh Translation (twoParts ws)) tt)
+
+typed-in : (f : Bytes) → FaultIn 3 5 (classifyTyped f)
+unfolding classifyTyped classifyString
+typed-in f =
+    either-way (FaultIn 3 5) (not (isTyped f)) (fault 3) _ (omega arith)
+    (either-way (FaultIn 3 5) (not (eqb (getD f 3 0) 90)) nothing _ tt
+    (either-way (FaultIn 3 5) (sameBytes (take 2 f) (text "NM")) (named (drop 5 f)) _ tt
+    (tagged-in 3 5 4 5 (omega arith) (omega arith) (omega arith) (omega arith) (take 2 f) (split 44 (drop 5 f)))))
+
+name-in : (ws : List Bytes) → FaultIn 6 8 (oneNamed ws)
+name-in [] = omega arith
+name-in (w ∷ []) = either-way (FaultIn 6 8) (isEmpty w) (fault 6) (named w) (omega arith) tt
+name-in (w ∷ v ∷ ws) = omega arith
+
+gaf-in : (tag : Bytes) (ws : List Bytes) → FaultIn 6 8 (classifyGaf tag ws)
+unfolding classifyGaf
+gaf-in tag ws =
+    either-way (FaultIn 6 8) (sameBytes tag (text "RN")) (oneNamed ws) _ (name-in ws)
+    (tagged-in 6 8 7 8 (omega arith) (omega arith) (omega arith) (omega arith) tag ws)
+
+-- a field that is refused is so by itself, with a number of its range, or for the sizes
+abbrev Alone : ℕ → ℕ → FieldMeaning → ℕ → Type 0
+Alone lo hi m n = (lo ≤ n) × (n ≤ hi) × (apply empty m ≡ wrong n)
+
+field-wrong : (lo hi : ℕ) (g : GraphName) (m : FieldMeaning) → FaultIn lo hi m → (n : ℕ) → apply g m ≡ wrong n → Alone lo hi m n ⊎ (10 < n)
+field-wrong lo hi g m r n e = ⊎-elim own inr (apply-wrong g m n e)
+  where
+    own : m ≡ fault n → Alone lo hi m n ⊎ (10 < n)
+    own d = let s : FaultIn lo hi (fault n) = rw d at r in inl (s .0, s .1, rw d)
+
+-- ------------------------------------------------------------------ what holds of every refusal of a reading
+
+module _ (P : Refusal → Type 0) where
+  abbrev OfRefusal : Reading → Type 0
+  OfRefusal (done g) = Unit {0}
+  OfRefusal (refused r) = P r
+
+  after-taken : (x : Taken) (go : GraphName → Reading) (stop : ℕ → Reading) → ((g : GraphName) → OfRefusal (go g))
+      → ((n : ℕ) → x ≡ wrong n → OfRefusal (stop n)) → OfRefusal (afterTaken x go stop)
+  after-taken (took g) go stop k s = k g
+  after-taken (wrong n) go stop k s = s n refl
+
+  after-reading : (x : Reading) (go : GraphName → Reading) → OfRefusal x → ((g : GraphName) → OfRefusal (go g)) → OfRefusal (afterReading x go)
+  after-reading (done g) go s k = k g
+  after-reading (refused r) go s k = s
+
+  of-refused : (x : Reading) (r : Refusal) → OfRefusal x → x ≡ refused r → P r
+  of-refused x r h e = rw e at h
+
+clash : (b : Bool) → b ≡ false → b ≡ true → ⊥
+clash b f t = false≢true (sym f ∙ t)
+
+-- the place behind a separator
+behind : (sep : ℕ) (t : Bytes) (i : ℕ) → i < length t → getD t i 0 ≡ sep → Behind sep t (i + 1)
+behind sep t i l e = let z : i + 1 - 1 ≡ i = omega arith in (omega arith, rw (z, e))
+
+-- ------------------------------------------------------------------ header lines
+
+module _ (t : Bytes) where
+  abbrev Placed : Reading → Type 0
+  Placed = OfRefusal (PlacedInLines t)
+
+  -- sizes that are refused at a field
+  sizes-placed : (line begin start size n : ℕ) → 10 < n → begin ≤ length t → Behind 9 t begin → Placed (refuse line begin start size n)
+  sizes-placed line begin start size n h l b =
+      rw (le-leb 2 n (omega arith), lt-leb n 10 h)
+      (record {
+        inside = l;
+        quoted = λ e. absurd (clash (quotes n) (rw (le-leb 2 n (omega arith), lt-leb n 10 h)) e);
+        line = λ e. absurd (clash (ofLine n) (rw (lt-leb n 2 (omega arith), le-leb 6 n (omega arith), lt-leb n 8 (omega arith))) e);
+        field = λ e. b;
+      })
+
+  -- a line of one field
+  short-placed : (line start : ℕ) → start ≤ length t → Begins 10 t start → Placed (refuse line start 0 0 1)
+  short-placed line start l b = record {
+    inside = l;
+    quoted = λ e. absurd (false≢true e);
+    line = λ e. b;
+    field = λ e. absurd (false≢true (sym e));
+  }
+
+  -- a line's first field
+  unknown-placed : (line start : ℕ) (head : Bytes) → Begins 10 t start → Stands t start head → sameBytes head (text "H") ≡ false → isGafHead head ≡ false
+      → Placed (refuse line start start (length head) 2)
+  unfolding lineFields
+  unknown-placed line start head b s h u = record {
+    inside = omega (arith, s .0);
+    quoted = λ e. record { start = refl; within = s .0; alone = rw (s .1, h, u) };
+    line = λ e. b;
+    field = λ e. absurd (false≢true (sym e));
+  }
+
+  -- a field of an `H` line
+  typed-placed : (line start : ℕ) (f : Bytes) (n : ℕ) → Behind 9 t start → Stands t start f → 3 ≤ n → n ≤ 5 → typedField empty f ≡ wrong n
+      → Placed (refuse line start start (length f) n)
+  unfolding typedFields
+  typed-placed line start f n b s l h w =
+      let q : (leb 2 n ≡ true) × (leb n 10 ≡ true) = (le-leb 2 n (omega arith), le-leb n 10 (omega arith)) in
+      rw (q .0, q .1)
+      (record {
+        inside = omega (arith, s .0);
+        quoted = λ e. record { start = refl; within = s .0; alone = rw (s .1, ne-eqb n 2 (omega arith), le-leb n 5 h, w, q .0, q .1) };
+        line = λ e. absurd (clash (ofLine n) (rw (lt-leb n 2 (omega arith), lt-leb 6 n (omega arith))) e);
+        field = λ e. b;
+      })
+
+  -- a whole `@` line
+  line-placed : (line start : ℕ) (whole head f : Bytes) (fs : List Bytes) (n : ℕ) → split 9 whole ≡ head ∷ f ∷ fs → Begins 10 t start → Stands t start whole
+      → sameBytes head (text "H") ≡ false → isGafHead head ≡ true → 6 ≤ n → n ≤ 8 → gafLine empty head (f ∷ fs) ≡ wrong n
+      → Placed (refuse line (start + length head + 1) start (length whole) n)
+  unfolding lineFields
+  line-placed line start whole head f fs n d b s h u l k w =
+      let q : (leb 2 n ≡ true) × (leb n 10 ≡ true) = (le-leb 2 n (omega arith), le-leb n 10 (omega arith)) in
+      rw (q .0, q .1)
+      (record {
+        inside = omega (arith, s .0);
+        quoted = λ e. record { start = refl; within = s .0; alone = rw (s .1, ne-eqb n 2 (omega arith), lt-leb n 5 (omega arith), d, h, u, w, q .0, q .1) };
+        line = λ e. b;
+        field = λ e. absurd (clash (ofLine n) e (rw (lt-leb n 2 (omega arith), le-leb 6 n l, le-leb n 8 k)));
+      })
+
+  fields-placed : (line start : ℕ) (fs : List Bytes) (g : GraphName) → Follow (Behind 9 t) t start fs → Placed (typedFields line start fs g)
+  unfolding typedFields Follow
+  fields-placed line start [] g p = tt
+  fields-placed line start (f ∷ fs) g p =
+      after-taken (PlacedInLines t) (typedField g f) _ _ (λ g′. fields-placed line (start + length f + 1) fs g′ (p .2)) λ n e.
+      ⊎-elim
+      (λ (a : Alone 3 5 (classifyTyped f) n). typed-placed line start f n (p .0) (p .1) (a .0) (a .1) (typed-classified empty f ∙ a .2))
+      (λ (h : 10 < n). sizes-placed line start start (length f) n h (omega (arith, p .1 .0)) (p .0))
+      (field-wrong 3 5 g (classifyTyped f) (typed-in f) n (sym (typed-classified g f) ∙ e))
+
+  -- one line, by its fields
+  module _ (line start : ℕ) (whole : Bytes) (g : GraphName) (b : Begins 10 t start) (s : Stands t start whole) where
+    gaf-placed : (head f : Bytes) (fs : List Bytes) → split 9 whole ≡ head ∷ f ∷ fs → Parts (Behind 9 t) t start (head ∷ f ∷ fs)
+        → sameBytes head (text "H") ≡ false → isGafHead head ≡ true
+        → Placed (afterTaken (gafLine g head (f ∷ fs)) done (refuse line (start + length head + 1) start (length whole)))
+    unfolding Follow
+    gaf-placed head f fs d p h u =
+        let tag = drop 1 head in
+        after-taken (PlacedInLines t) (gafLine g head (f ∷ fs)) done _ (λ g′. tt) λ n e.
+        ⊎-elim
+        (λ (a : Alone 6 8 (classifyGaf tag (f ∷ fs)) n).
+        line-placed line start whole head f fs n d b s h u (a .0) (a .1) (gaf-classified empty head (f ∷ fs) u ∙ a .2))
+        (λ (k : 10 < n). sizes-placed line (start + length head + 1) start (length whole) n k (omega (arith, p .1 .1 .0)) (p .1 .0))
+        (field-wrong 6 8 g (classifyGaf tag (f ∷ fs)) (gaf-in tag (f ∷ fs)) n (sym (gaf-classified g head (f ∷ fs) u) ∙ e))
+
+    by-fields : (fs : List Bytes) → split 9 whole ≡ fs → Parts (Behind 9 t) t start fs → Placed (lineFields line start whole fs g)
+    unfolding lineFields
+    by-fields [] d p = absurd p
+    by-fields (head ∷ []) d p = short-placed line start (omega (arith, s .0)) b
+    by-fields (head ∷ f ∷ fs) d p = by-head (sameBytes head (text "H")) refl
+      where
+        by-gaf : sameBytes head (text "H") ≡ false → (u : Bool) → isGafHead head ≡ u
+            → Placed (cond u (afterTaken (gafLine g head (f ∷ fs)) done (refuse line (start + length head + 1) start (length whole))) (refuse line start start (length head) 2))
+        by-gaf h true u = gaf-placed head f fs d p h u
+        by-gaf h false u = unknown-placed line start head b (p .0) h u
+
+        by-head : (h : Bool) → sameBytes head (text "H") ≡ h
+            → Placed (cond h (typedFields line (start + length head + 1) (f ∷ fs) g)
+            (cond (isGafHead head) (afterTaken (gafLine g head (f ∷ fs)) done (refuse line (start + length head + 1) start (length whole)))
+            (refuse line start start (length head) 2)))
+        by-head true h = fields-placed line (start + length head + 1) (f ∷ fs) g (p .1)
+        by-head false h = by-gaf h (isGafHead head) refl
+
+    one-line-placed : Placed (lineFields line start whole (split 9 whole) g)
+    one-line-placed = by-fields (split 9 whole) refl (split-stands (Behind 9 t) t 9 (behind 9 t) whole start s)
+
+  lines-placed : (line start : ℕ) (ls : List Bytes) (g : GraphName) → Follow (Begins 10 t) t start ls → Placed (linesFrom line start ls g)
+  unfolding linesFrom Follow
+  lines-placed line start [] g p = tt
+  lines-placed line start (l ∷ ls) g p =
+      after-reading (PlacedInLines t) (lineFields line start l (split 9 l) g) (linesFrom (suc line) (start + length l + 1) ls)
+      (one-line-placed line start l g (p .0) (p .1)) (λ g′. lines-placed (suc line) (start + length l + 1) ls g′ (p .2))
+
+  header-placed : Placed (fromHeaderLines t)
+  unfolding fromHeaderLines
+  header-placed =
+      let p = split-stands (Begins 10 t) t 10 (λ i l e. inr (behind 10 t i l e)) t 0 (all-stands t) in
+      lines-placed 1 0 (withoutLastEmpty (split 10 t)) empty
+      (without-last (Begins 10 t) t 0 (split 10 t) (follow-from (Begins 10 t) t 0 (split 10 t) (inl refl) p))
+
+-- ------------------------------------------------------------------ tags
+
+-- a refusal within the value v of the tag of a kind, whose relations are refused with m
+abbrev InValue : Kind → ℕ → Bytes → Refusal → Type 0
+InValue k m v r = ((r .number ≡ m) × (BeginsIn (some v) r × QuotedIn k (some v) r)) ⊎ ((10 < r .number) × BeginsIn (some v) r)
+
+module _ (k : Kind) (m : ℕ) (lo : 9 ≤ m) (hi : m ≤ 10) where
+  relation-placed : (v : Bytes) (start : ℕ) (w : Bytes) (n : ℕ) → Begins 59 v start → Stands v start w
+      → Alone m m (relatedBy k m (twoParts (split 44 w))) n ⊎ (10 < n) → OfRefusal (InValue k m v) (refuse 0 start start (length w) n)
+  unfolding tagRelations
+  relation-placed v start w n b s (inl a) =
+      let e : n ≡ m = omega (arith, a .0, a .1) in
+      let q : (leb 2 m ≡ true) × (leb m 10 ≡ true) = (le-leb 2 m (omega arith), le-leb m 10 hi) in
+      rw (e, q .0, q .1)
+      (inl (refl, ((omega (arith, s .0), b), record {
+        start = refl;
+        within = s .0;
+        alone = rw (s .1, relation-classified empty k m (twoParts (split 44 w)), rw e at (a .2), q .0, q .1);
+      })))
+  relation-placed v start w n b s (inr h) =
+      rw (le-leb 2 n (omega arith), lt-leb n 10 h) (inr (h, (omega (arith, s .0), b)))
+
+  relations-placed : (v : Bytes) (start : ℕ) (ws : List Bytes) (g : GraphName) → Follow (Begins 59 v) v start ws
+      → OfRefusal (InValue k m v) (tagRelations m (addTo k) start ws g)
+  unfolding tagRelations Follow
+  relations-placed v start [] g p = tt
+  relations-placed v start (w ∷ ws) g p =
+      let parts = twoParts (split 44 w) in
+      after-taken (InValue k m v) (orWrong m (addTo k g parts)) _ _ (λ g′. relations-placed v (start + length w + 1) ws g′ (p .2)) λ n e.
+      relation-placed v start w n (p .0) (p .1)
+      (field-wrong m m g (relatedBy k m parts) (related-in m m m (omega arith) (omega arith) k parts) n (sym (relation-classified g k m parts) ∙ e))
+
+  -- the whole value, where it is there
+  value-placed : (P : Refusal → Type 0) (o : Option Bytes) → ((v : Bytes) → o ≡ some v → (r : Refusal) → InValue k m v r → P r) → (g : GraphName)
+      → OfRefusal P (tagValue m (addTo k) o g)
+  unfolding tagValue
+  value-placed P none f g = tt
+  value-placed P (some v) f g = go (tagRelations m (addTo k) 0 (split 59 v) g) (relations-placed v 0 (split 59 v) g (follow-from (Begins 59 v) v 0 (split 59 v) (inl refl) p))
+    where
+      p : Parts (Begins 59 v) v 0 (split 59 v)
+      p = split-stands (Begins 59 v) v 59 (λ i l e. inr (behind 59 v i l e)) v 0 (all-stands v)
+
+      go : (x : Reading) → OfRefusal (InValue k m v) x → OfRefusal P x
+      go (done g) h = tt
+      go (refused r) h = f v refl r h
+
+module _ (s t : Option Bytes) where
+  name-placed : (n : Option Bytes) (g : GraphName) → OfRefusal (PlacedInTags s t) (nameValue n g)
+  unfolding nameValue
+  name-placed none g = tt
+  name-placed (some v) g = after-taken (PlacedInTags s t) (judged (withName v g)) done _ (λ g′. tt) λ n e.
+      let h = judged-wrong (withName v g) n e in
+      rw (le-leb 2 n (omega arith), lt-leb n 10 h)
+      (record {
+        subgraph = λ (d : n ≡ 9). absurd (omega arith);
+        translation = λ (d : n ≡ 10). absurd (omega arith);
+        sizes = λ l. inl refl;
+      })
+
+  subgraph-placed : (v : Bytes) → s ≡ some v → (r : Refusal) → InValue Subgraph 9 v r → PlacedInTags s t r
+  subgraph-placed v e r (inl h) = rw e (record {
+    subgraph = λ d. h .1;
+    translation = λ (d : r .number ≡ 10). absurd (omega (arith, h .0));
+    sizes = λ (l : 10 < r .number). absurd (omega (arith, h .0));
+  })
+  subgraph-placed v e r (inr h) = rw e (record {
+    subgraph = λ (d : r .number ≡ 9). absurd (omega (arith, h .0));
+    translation = λ (d : r .number ≡ 10). absurd (omega (arith, h .0));
+    sizes = λ l. inr (inl (h .1));
+  })
+
+  translation-placed : (v : Bytes) → t ≡ some v → (r : Refusal) → InValue Translation 10 v r → PlacedInTags s t r
+  translation-placed v e r (inl h) = rw e (record {
+    subgraph = λ (d : r .number ≡ 9). absurd (omega (arith, h .0));
+    translation = λ d. h .1;
+    sizes = λ (l : 10 < r .number). absurd (omega (arith, h .0));
+  })
+  translation-placed v e r (inr h) = rw e (record {
+    subgraph = λ (d : r .number ≡ 9). absurd (omega (arith, h .0));
+    translation = λ (d : r .number ≡ 10). absurd (omega (arith, h .0));
+    sizes = λ l. inr (inr (h .1));
+  })
+
+  tags-placed : (n : Option Bytes) → OfRefusal (PlacedInTags s t) (fromTags n s t)
+  unfolding fromTags
+  tags-placed n =
+      after-reading (PlacedInTags s t) (nameValue n empty) _ (name-placed n empty) λ g.
+      after-reading (PlacedInTags s t) (tagValue 9 (addTo Subgraph) s g) (tagValue 10 (addTo Translation) t)
+      (value-placed Subgraph 9 (omega arith) (omega arith) (PlacedInTags s t) s subgraph-placed g)
+      (value-placed Translation 10 (omega arith) (omega arith) (PlacedInTags s t) t translation-placed)
+
+pub offset-right : OffsetRight
+offset-right = record {
+  header-lines = λ t r e. of-refused (PlacedInLines t) (fromHeaderLines t) r (header-placed t) e;
+  tags = λ n s t r e. of-refused (PlacedInTags s t) (fromTags n s t) r (tags-placed s t n) e;
+}
