@@ -270,11 +270,17 @@ module _ (k : Kind) (m : ℕ) (lo : 9 ≤ m) (hi : m ≤ 10) where
       let e : n ≡ m = omega (arith, a .0, a .1) in
       let q : (leb 2 m ≡ true) × (leb m 10 ≡ true) = (le-leb 2 m (omega arith), le-leb m 10 hi) in
       rw (e, q .0, q .1)
-      (inl (refl, ((omega (arith, s .0), b), record {
-        start = refl;
-        within = s .0;
-        alone = rw (s .1, relation-classified empty k m (twoParts (split 44 w)), rw e at (a .2), q .0, q .1);
-      })))
+      (inl (
+        refl,
+        (
+          (omega (arith, s .0), b),
+          record {
+            start = refl;
+            within = s .0;
+            alone = rw (s .1, relation-classified empty k m (twoParts (split 44 w)), rw e at (a .2), q .0, q .1);
+          },
+        ),
+      ))
   relation-placed v start w n b s (inr h) =
       rw (le-leb 2 n (omega arith), lt-leb n 10 h) (inr (h, (omega (arith, s .0), b)))
 

@@ -107,13 +107,7 @@ fn next_line(t: &[u8], at: usize, tally: Tally) -> FieldRead
     let head = text::part(line, 0, head_size);
     let second = at + head_size + 1;
     if text::same(head, b"H") {
-        return next_part(
-            Source::Header,
-            t,
-            end + 1,
-            second,
-            Tally { lines, fields },
-        );
+        return next_part(Source::Header, t, end + 1, second, Tally { lines, fields });
     }
     if is_gaf_head(head) {
         return line_read(gaf_line(line), second, at, end - at, end + 1, counted);
