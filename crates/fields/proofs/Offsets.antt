@@ -1,5 +1,5 @@
 -- Where a refusal is (`OffsetRight`): a field that is wrong stands at its offset, and is wrong by itself, whatever was read before it.
-use mathlib.Core.Path.{_≡_, refl, sym, subst, _∙_}
+use mathlib.Core.Path.{_≡_, refl, sym, ap, subst, _∙_}
 use mathlib.Core.Logic.{_⊎_, inl, inr, ⊎-elim}
 use mathlib.Core.Bool.{Bool, true, false, cond, not, _||_, false≢true}
 use mathlib.Core.List.{List, [], _∷_}
@@ -19,7 +19,7 @@ use Rattle.model.specs.Statements.{Behind, Begins, standing, Quoted, partAlone,
 use Rattle.text.proofs.Tests.{either-way}
 use Rattle.fields.specs.Fields.{FieldMeaning, fault, nothing, named, related, apply, relatedBy, relatedByTag, oneNamed, classifyString, classifyTyped, classifyGaf}
 use Rattle.fields.proofs.Classified.{typed-classified, gaf-classified, relation-classified}
-use Rattle.fields.proofs.Standing.{Stands, all-stands, Follow, Parts, follow-from, split-stands, without-last}
+use Rattle.fields.proofs.Standing.{Stands, all-stands, Free, Follow, Parts, follow-from, split-stands, without-last, lineAt, line-ended, line-along}
 
 -- ------------------------------------------------------------------ the numbers of faults
 
@@ -127,8 +127,8 @@ clash : (b : Bool) → b ≡ false → b ≡ true → ⊥
 clash b f t = false≢true (sym f ∙ t)
 
 -- the place behind a separator
-behind : (sep : ℕ) (t : Bytes) (i : ℕ) → i < length t → getD t i 0 ≡ sep → Behind sep t (i + 1)
-behind sep t i l e = let z : i + 1 - 1 ≡ i = omega arith in (omega arith, rw (z, e))
+behind : (sep : ℕ) (t : Bytes) (i : ℕ) → getD t i 0 ≡ sep → Behind sep t (i + 1)
+behind sep t i e = let z : i + 1 - 1 ≡ i = omega arith in (omega arith, rw (z, e))
 
 -- ------------------------------------------------------------------ header lines
 
@@ -137,124 +137,168 @@ module _ (t : Bytes) where
   Placed = OfRefusal (PlacedInLines t)
 
   -- sizes that are refused at a field
-  sizes-placed : (line begin start size n : ℕ) → 10 < n → begin ≤ length t → Behind 9 t begin → Placed (refuse line begin start size n)
-  sizes-placed line begin start size n h l b =
+  sizes-placed : (line begin start size n : ℕ) → 10 < n → begin ≤ length t → lineAt t begin ≡ line → Behind 9 t begin
+      → Placed (refuse line begin start size n)
+  sizes-placed line begin start size n h l o b =
       rw (le-leb 2 n (omega arith), lt-leb n 10 h)
       (record {
         inside = l;
+        lines = o;
         quoted = λ e. absurd (clash (quotes n) (rw (le-leb 2 n (omega arith), lt-leb n 10 h)) e);
         line = λ e. absurd (clash (ofLine n) (rw (lt-leb n 2 (omega arith), le-leb 6 n (omega arith), lt-leb n 8 (omega arith))) e);
         field = λ e. b;
       })
 
-  -- a line of one field
-  short-placed : (line start : ℕ) → start ≤ length t → Begins 10 t start → Placed (refuse line start 0 0 1)
-  short-placed line start l b = record {
-    inside = l;
-    quoted = λ e. absurd (false≢true e);
-    line = λ e. b;
-    field = λ e. absurd (false≢true (sym e));
-  }
-
-  -- a line's first field
-  unknown-placed : (line start : ℕ) (head : Bytes) → Begins 10 t start → Stands t start head → sameBytes head (text "H") ≡ false → isGafHead head ≡ false
-      → Placed (refuse line start start (length head) 2)
-  unfolding lineFields
-  unknown-placed line start head b s h u = record {
-    inside = omega (arith, s .0);
-    quoted = λ e. record { start = refl; within = s .0; alone = rw (s .1, h, u) };
-    line = λ e. b;
-    field = λ e. absurd (false≢true (sym e));
-  }
-
   -- a field of an `H` line
-  typed-placed : (line start : ℕ) (f : Bytes) (n : ℕ) → Behind 9 t start → Stands t start f → 3 ≤ n → n ≤ 5 → typedField empty f ≡ wrong n
-      → Placed (refuse line start start (length f) n)
+  typed-placed : (line start : ℕ) (f : Bytes) (n : ℕ) → lineAt t start ≡ line → Behind 9 t start → Stands t start f
+      → 3 ≤ n → n ≤ 5 → typedField empty f ≡ wrong n → Placed (refuse line start start (length f) n)
   unfolding typedFields
-  typed-placed line start f n b s l h w =
+  typed-placed line start f n o b s l h w =
       let q : (leb 2 n ≡ true) × (leb n 10 ≡ true) = (le-leb 2 n (omega arith), le-leb n 10 (omega arith)) in
       rw (q .0, q .1)
       (record {
         inside = omega (arith, s .0);
+        lines = o;
         quoted = λ e. record { start = refl; within = s .0; alone = rw (s .1, ne-eqb n 2 (omega arith), le-leb n 5 h, w, q .0, q .1) };
         line = λ e. absurd (clash (ofLine n) (rw (lt-leb n 2 (omega arith), lt-leb 6 n (omega arith))) e);
         field = λ e. b;
       })
 
-  -- a whole `@` line
-  line-placed : (line start : ℕ) (whole head f : Bytes) (fs : List Bytes) (n : ℕ) → split 9 whole ≡ head ∷ f ∷ fs → Begins 10 t start → Stands t start whole
-      → sameBytes head (text "H") ≡ false → isGafHead head ≡ true → 6 ≤ n → n ≤ 8 → gafLine empty head (f ∷ fs) ≡ wrong n
-      → Placed (refuse line (start + length head + 1) start (length whole) n)
-  unfolding lineFields
-  line-placed line start whole head f fs n d b s h u l k w =
-      let q : (leb 2 n ≡ true) × (leb n 10 ≡ true) = (le-leb 2 n (omega arith), le-leb n 10 (omega arith)) in
-      rw (q .0, q .1)
-      (record {
-        inside = omega (arith, s .0);
-        quoted = λ e. record { start = refl; within = s .0; alone = rw (s .1, ne-eqb n 2 (omega arith), lt-leb n 5 (omega arith), d, h, u, w, q .0, q .1) };
-        line = λ e. b;
-        field = λ e. absurd (clash (ofLine n) e (rw (lt-leb n 2 (omega arith), le-leb 6 n l, le-leb n 8 k)));
-      })
+  -- where a field of this line may begin
+  abbrev FieldIn : ℕ → ℕ → Type 0
+  FieldIn line i = Behind 9 t i × (lineAt t i ≡ line)
 
-  fields-placed : (line start : ℕ) (fs : List Bytes) (g : GraphName) → Follow (Behind 9 t) t start fs → Placed (typedFields line start fs g)
+  fields-placed : (line start : ℕ) (fs : List Bytes) (g : GraphName) → Follow 9 (FieldIn line) t start fs → Placed (typedFields line start fs g)
   unfolding typedFields Follow
   fields-placed line start [] g p = tt
   fields-placed line start (f ∷ fs) g p =
-      after-taken (PlacedInLines t) (typedField g f) _ _ (λ g′. fields-placed line (start + length f + 1) fs g′ (p .2)) λ n e.
+      after-taken (PlacedInLines t) (typedField g f) _ _ (λ g′. fields-placed line (start + length f + 1) fs g′ (p .3)) λ n e.
       ⊎-elim
-      (λ (a : Alone 3 5 (classifyTyped f) n). typed-placed line start f n (p .0) (p .1) (a .0) (a .1) (typed-classified empty f ∙ a .2))
-      (λ (h : 10 < n). sizes-placed line start start (length f) n h (omega (arith, p .1 .0)) (p .0))
+      (λ (a : Alone 3 5 (classifyTyped f) n). typed-placed line start f n (p .0 .1) (p .0 .0) (p .1) (a .0) (a .1) (typed-classified empty f ∙ a .2))
+      (λ (h : 10 < n). sizes-placed line start start (length f) n h (omega (arith, p .1 .0)) (p .0 .1) (p .0 .0))
       (field-wrong 3 5 g (classifyTyped f) (typed-in f) n (sym (typed-classified g f) ∙ e))
 
-  -- one line, by its fields
-  module _ (line start : ℕ) (whole : Bytes) (g : GraphName) (b : Begins 10 t start) (s : Stands t start whole) where
-    gaf-placed : (head f : Bytes) (fs : List Bytes) → split 9 whole ≡ head ∷ f ∷ fs → Parts (Behind 9 t) t start (head ∷ f ∷ fs)
-        → sameBytes head (text "H") ≡ false → isGafHead head ≡ true
-        → Placed (afterTaken (gafLine g head (f ∷ fs)) done (refuse line (start + length head + 1) start (length whole)))
-    unfolding Follow
-    gaf-placed head f fs d p h u =
-        let tag = drop 1 head in
-        after-taken (PlacedInLines t) (gafLine g head (f ∷ fs)) done _ (λ g′. tt) λ n e.
-        ⊎-elim
-        (λ (a : Alone 6 8 (classifyGaf tag (f ∷ fs)) n).
-        line-placed line start whole head f fs n d b s h u (a .0) (a .1) (gaf-classified empty head (f ∷ fs) u ∙ a .2))
-        (λ (k : 10 < n). sizes-placed line (start + length head + 1) start (length whole) n k (omega (arith, p .1 .1 .0)) (p .1 .0))
-        (field-wrong 6 8 g (classifyGaf tag (f ∷ fs)) (gaf-in tag (f ∷ fs)) n (sym (gaf-classified g head (f ∷ fs) u) ∙ e))
+  -- one line, which begins at `start`
+  module _ (line start : ℕ) (whole : Bytes) (o : lineAt t start ≡ line) (b : Begins 10 t start) (s : Stands t start whole)
+      (free : Free 10 t start (start + length whole)) where
+    -- it has one field
+    short-placed : Placed (refuse line start 0 0 1)
+    short-placed = record {
+      inside = omega (arith, s .0);
+      lines = o;
+      quoted = λ e. absurd (false≢true e);
+      line = λ e. b;
+      field = λ e. absurd (false≢true (sym e));
+    }
 
-    by-fields : (fs : List Bytes) → split 9 whole ≡ fs → Parts (Behind 9 t) t start fs → Placed (lineFields line start whole fs g)
+    -- its first field is of no kind
+    unknown-placed : (head : Bytes) → Stands t start head → sameBytes head (text "H") ≡ false → isGafHead head ≡ false
+        → Placed (refuse line start start (length head) 2)
     unfolding lineFields
-    by-fields [] d p = absurd p
-    by-fields (head ∷ []) d p = short-placed line start (omega (arith, s .0)) b
-    by-fields (head ∷ f ∷ fs) d p = by-head (sameBytes head (text "H")) refl
-      where
-        by-gaf : sameBytes head (text "H") ≡ false → (u : Bool) → isGafHead head ≡ u
-            → Placed (cond u (afterTaken (gafLine g head (f ∷ fs)) done (refuse line (start + length head + 1) start (length whole))) (refuse line start start (length head) 2))
-        by-gaf h true u = gaf-placed head f fs d p h u
-        by-gaf h false u = unknown-placed line start head b (p .0) h u
+    unknown-placed head p h u = record {
+      inside = omega (arith, s .0);
+      lines = o;
+      quoted = λ e. record { start = refl; within = p .0; alone = rw (p .1, h, u) };
+      line = λ e. b;
+      field = λ e. absurd (false≢true (sym e));
+    }
 
-        by-head : (h : Bool) → sameBytes head (text "H") ≡ h
-            → Placed (cond h (typedFields line (start + length head + 1) (f ∷ fs) g)
-            (cond (isGafHead head) (afterTaken (gafLine g head (f ∷ fs)) done (refuse line (start + length head + 1) start (length whole)))
-            (refuse line start start (length head) 2)))
-        by-head true h = fields-placed line (start + length head + 1) (f ∷ fs) g (p .1)
-        by-head false h = by-gaf h (isGafHead head) refl
+    -- it is an `@` line, and wrong
+    line-placed : (head f : Bytes) (fs : List Bytes) (n : ℕ) → split 9 whole ≡ head ∷ f ∷ fs → sameBytes head (text "H") ≡ false → isGafHead head ≡ true
+        → 6 ≤ n → n ≤ 8 → gafLine empty head (f ∷ fs) ≡ wrong n → Placed (refuse line (start + length head + 1) start (length whole) n)
+    unfolding lineFields
+    line-placed head f fs n d h u l k w =
+        let q : (leb 2 n ≡ true) × (leb n 10 ≡ true) = (le-leb 2 n (omega arith), le-leb n 10 (omega arith)) in
+        rw (q .0, q .1)
+        (record {
+          inside = omega (arith, s .0);
+          lines = o;
+          quoted = λ e. record { start = refl; within = s .0; alone = rw (s .1, ne-eqb n 2 (omega arith), lt-leb n 5 (omega arith), d, h, u, w, q .0, q .1) };
+          line = λ e. b;
+          field = λ e. absurd (clash (ofLine n) e (rw (lt-leb n 2 (omega arith), le-leb 6 n l, le-leb n 8 k)));
+        })
 
-    one-line-placed : Placed (lineFields line start whole (split 9 whole) g)
-    one-line-placed = by-fields (split 9 whole) refl (split-stands (Behind 9 t) t 9 (behind 9 t) whole start s)
+    -- where its fields begin but for the first
+    field-behind : (i : ℕ) → start ≤ i → i < start + length whole → getD t i 0 ≡ 9 → FieldIn line (i + 1)
+    field-behind i l h e =
+        let z : start + (i + 1 - start) ≡ i + 1 = omega arith in
+        (behind 9 t i e, rw z at (line-along t start (start + length whole) free (s .0) (i + 1 - start) (omega arith)) ∙ o)
 
-  lines-placed : (line start : ℕ) (ls : List Bytes) (g : GraphName) → Follow (Begins 10 t) t start ls → Placed (linesFrom line start ls g)
+    module _ (g : GraphName) where
+      gaf-placed : (head f : Bytes) (fs : List Bytes) → split 9 whole ≡ head ∷ f ∷ fs → Parts 9 (FieldIn line) t start (head ∷ f ∷ fs)
+          → sameBytes head (text "H") ≡ false → isGafHead head ≡ true
+          → Placed (afterTaken (gafLine g head (f ∷ fs)) done (refuse line (start + length head + 1) start (length whole)))
+      unfolding Follow
+      gaf-placed head f fs d p h u =
+          let meaning = classifyGaf (drop 1 head) (f ∷ fs) in
+          let second = p .2 in
+          after-taken (PlacedInLines t) (gafLine g head (f ∷ fs)) done _ (λ g′. tt) λ n e.
+          ⊎-elim
+          (λ (a : Alone 6 8 meaning n). line-placed head f fs n d h u (a .0) (a .1) (gaf-classified empty head (f ∷ fs) u ∙ a .2))
+          (λ (k : 10 < n). sizes-placed line (start + length head + 1) start (length whole) n k (omega (arith, second .1 .0)) (second .0 .1) (second .0 .0))
+          (field-wrong 6 8 g meaning (gaf-in (drop 1 head) (f ∷ fs)) n (sym (gaf-classified g head (f ∷ fs) u) ∙ e))
+
+      by-fields : (fs : List Bytes) → split 9 whole ≡ fs → Parts 9 (FieldIn line) t start fs → Placed (lineFields line start whole fs g)
+      unfolding lineFields
+      by-fields [] d p = absurd p
+      by-fields (head ∷ []) d p = short-placed
+      by-fields (head ∷ f ∷ fs) d p = by-head (sameBytes head (text "H")) refl
+        where
+          by-gaf : sameBytes head (text "H") ≡ false → (u : Bool) → isGafHead head ≡ u
+              → Placed (cond u (afterTaken (gafLine g head (f ∷ fs)) done (refuse line (start + length head + 1) start (length whole))) (refuse line start start (length head) 2))
+          by-gaf h true u = gaf-placed head f fs d p h u
+          by-gaf h false u = unknown-placed head (p .0) h u
+
+          by-head : (h : Bool) → sameBytes head (text "H") ≡ h
+              → Placed (cond h (typedFields line (start + length head + 1) (f ∷ fs) g)
+              (cond (isGafHead head) (afterTaken (gafLine g head (f ∷ fs)) done (refuse line (start + length head + 1) start (length whole)))
+              (refuse line start start (length head) 2)))
+          by-head true h = fields-placed line (start + length head + 1) (f ∷ fs) g (p .2)
+          by-head false h = by-gaf h (isGafHead head) refl
+
+      one-line-placed : Placed (lineFields line start whole (split 9 whole) g)
+      one-line-placed =
+          by-fields (split 9 whole) refl
+          (split-stands 9 (FieldIn line) t start (start + length whole) field-behind whole start (omega arith) (omega arith) s)
+
+  -- the first of the lines that are left has this number
+  abbrev Numbered : ℕ → ℕ → List Bytes → Type 0
+  Numbered line start [] = Unit {0}
+  Numbered line start (l ∷ ls) = lineAt t start ≡ line
+
+  numbered-next : (line start : ℕ) (l : Bytes) (ls : List Bytes) → lineAt t start ≡ line → Follow 10 (Begins 10 t) t start (l ∷ ls)
+      → Numbered (suc line) (start + length l + 1) ls
+  unfolding Follow
+  numbered-next line start l [] o p = tt
+  numbered-next line start l (v ∷ vs) o p = ⊎-elim (λ (z : start + length l + 1 ≡ 0). absurd (omega arith)) ended (p .3 .0)
+    where
+      ended : Behind 10 t (start + length l + 1) → lineAt t (start + length l + 1) ≡ suc line
+      ended b =
+          let z : start + length l + 1 - 1 ≡ start + length l = omega arith in
+          line-ended t (start + length l) (omega (arith, p .3 .1 .0)) (rw z at (b .1))
+          ∙ ap suc (line-along t start (start + length l) (p .2) (p .1 .0) (length l) (omega arith) ∙ o)
+
+  lines-placed : (line start : ℕ) (ls : List Bytes) (g : GraphName) → Numbered line start ls → Follow 10 (Begins 10 t) t start ls
+      → Placed (linesFrom line start ls g)
   unfolding linesFrom Follow
-  lines-placed line start [] g p = tt
-  lines-placed line start (l ∷ ls) g p =
+  lines-placed line start [] g o p = tt
+  lines-placed line start (l ∷ ls) g o p =
       after-reading (PlacedInLines t) (lineFields line start l (split 9 l) g) (linesFrom (suc line) (start + length l + 1) ls)
-      (one-line-placed line start l g (p .0) (p .1)) (λ g′. lines-placed (suc line) (start + length l + 1) ls g′ (p .2))
+      (one-line-placed line start l o (p .0) (p .1) (p .2) g)
+      (λ g′. lines-placed (suc line) (start + length l + 1) ls g′ (numbered-next line start l ls o p) (p .3))
+
+  numbered-first : (ls : List Bytes) → Numbered 1 0 ls
+  unfolding split
+  numbered-first [] = tt
+  numbered-first (l ∷ ls) = refl
 
   header-placed : Placed (fromHeaderLines t)
   unfolding fromHeaderLines
   header-placed =
-      let p = split-stands (Begins 10 t) t 10 (λ i l e. inr (behind 10 t i l e)) t 0 (all-stands t) in
-      lines-placed 1 0 (withoutLastEmpty (split 10 t)) empty
-      (without-last (Begins 10 t) t 0 (split 10 t) (follow-from (Begins 10 t) t 0 (split 10 t) (inl refl) p))
+      let p = split-stands 10 (Begins 10 t) t 0 (length t) (λ i l h e. inr (behind 10 t i e)) t 0 (omega arith) (omega arith) (all-stands t) in
+      let ls = withoutLastEmpty (split 10 t) in
+      lines-placed 1 0 ls empty (numbered-first ls)
+      (without-last 10 (Begins 10 t) t 0 (split 10 t) (follow-from 10 (Begins 10 t) t 0 (split 10 t) (inl refl) p))
 
 -- ------------------------------------------------------------------ tags
 
@@ -284,13 +328,13 @@ module _ (k : Kind) (m : ℕ) (lo : 9 ≤ m) (hi : m ≤ 10) where
   relation-placed v start w n b s (inr h) =
       rw (le-leb 2 n (omega arith), lt-leb n 10 h) (inr (h, (omega (arith, s .0), b)))
 
-  relations-placed : (v : Bytes) (start : ℕ) (ws : List Bytes) (g : GraphName) → Follow (Begins 59 v) v start ws
+  relations-placed : (v : Bytes) (start : ℕ) (ws : List Bytes) (g : GraphName) → Follow 59 (Begins 59 v) v start ws
       → OfRefusal (InValue k m v) (tagRelations m (addTo k) start ws g)
   unfolding tagRelations Follow
   relations-placed v start [] g p = tt
   relations-placed v start (w ∷ ws) g p =
       let parts = twoParts (split 44 w) in
-      after-taken (InValue k m v) (orWrong m (addTo k g parts)) _ _ (λ g′. relations-placed v (start + length w + 1) ws g′ (p .2)) λ n e.
+      after-taken (InValue k m v) (orWrong m (addTo k g parts)) _ _ (λ g′. relations-placed v (start + length w + 1) ws g′ (p .3)) λ n e.
       relation-placed v start w n (p .0) (p .1)
       (field-wrong m m g (relatedBy k m parts) (related-in m m m (omega arith) (omega arith) k parts) n (sym (relation-classified g k m parts) ∙ e))
 
@@ -299,10 +343,10 @@ module _ (k : Kind) (m : ℕ) (lo : 9 ≤ m) (hi : m ≤ 10) where
       → OfRefusal P (tagValue m (addTo k) o g)
   unfolding tagValue
   value-placed P none f g = tt
-  value-placed P (some v) f g = go (tagRelations m (addTo k) 0 (split 59 v) g) (relations-placed v 0 (split 59 v) g (follow-from (Begins 59 v) v 0 (split 59 v) (inl refl) p))
+  value-placed P (some v) f g = go (tagRelations m (addTo k) 0 (split 59 v) g) (relations-placed v 0 (split 59 v) g (follow-from 59 (Begins 59 v) v 0 (split 59 v) (inl refl) p))
     where
-      p : Parts (Begins 59 v) v 0 (split 59 v)
-      p = split-stands (Begins 59 v) v 59 (λ i l e. inr (behind 59 v i l e)) v 0 (all-stands v)
+      p : Parts 59 (Begins 59 v) v 0 (split 59 v)
+      p = split-stands 59 (Begins 59 v) v 0 (length v) (λ i l h e. inr (behind 59 v i e)) v 0 (omega arith) (omega arith) (all-stands v)
 
       go : (x : Reading) → OfRefusal (InValue k m v) x → OfRefusal P x
       go (done g) h = tt

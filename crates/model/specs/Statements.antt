@@ -102,8 +102,10 @@ partAlone r w =
 abbrev pub ofLine : ℕ → Bool
 ofLine n = leb n 2 || (leb 6 n && leb n 8)
 
+-- the offset is a place of the text, and in the line that is told: the text up to there has that many lines
 pub record PlacedInLines (t : Bytes) (r : Refusal) : Type 0 where
   pub inside : r .offset ≤ length t
+  pub lines : length (split 10 (take (r .offset) t)) ≡ r .line
   pub quoted : quotes (r .number) ≡ true → Quoted t r (partAlone r)
   pub line : ofLine (r .number) ≡ true → Begins 10 t (r .offset)
   pub field : ofLine (r .number) ≡ false → Behind 9 t (r .offset)
