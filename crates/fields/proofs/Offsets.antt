@@ -15,7 +15,7 @@ use Rattle.model.specs.Text.{text}
 use Rattle.model.specs.Bytes.{Bytes, sameBytes, isEmpty, split}
 use Rattle.model.specs.Record.{Pair, GraphName, empty, withName, withPair, names, anyLong, bodies, judge, maxNames, maxPairs, maxBodiesBytes}
 use Rattle.model.specs.Reading.{Refusal, Reading, done, refused, Taken, took, wrong, judged, twoParts, orWrong, addTo, isTyped, typedField, isGafHead, gafLine, afterTaken, afterReading, quotes, refuse, typedFields, lineFields, linesFrom, withoutLastEmpty, fromHeaderLines, tagRelations, tagValue, nameValue, fromTags}
-use Rattle.model.specs.Statements.{Behind, Begins, standing, Quoted, partAlone, ofLine, PlacedInLines, BeginsIn, QuotedIn, PlacedInTags, OffsetRight}
+use Rattle.model.specs.Statements.{Behind, Begins, ofLine, PlacedInLines, BeginsIn, QuotedIn, PlacedInTags, OffsetRight}
 use Rattle.text.proofs.Tests.{either-way}
 use Rattle.fields.specs.Fields.{FieldMeaning, fault, nothing, named, related, apply, relatedBy, relatedByTag, oneNamed, classifyString, classifyTyped, classifyGaf}
 use Rattle.fields.proofs.Classified.{typed-classified, gaf-classified, relation-classified}

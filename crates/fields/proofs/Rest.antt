@@ -153,7 +153,7 @@ two-fields : (at : ℕ) (head x : Bytes)
     → lineBegin at (head ∷ split 9 x) ≡ cond (sameBytes head (text "H") || isGafHead head) (at + length head + 1) at
 two-fields at head x = rw (split-from 9 x 0 (omega arith))
 
--- where the first field counts of the line that begins at `at` and ends at e, and whose first field is k bytes long
+-- where the first field that counts begins in the line from `at` to e; the line's first field is k bytes long
 module _ (t : Bytes) (at e : ℕ) (f : e ≡ at + indexOf 10 (drop at t)) (k : ℕ) (d : k ≡ 0 + indexOf 9 (drop 0 (between t at e))) where
   line-begin : fieldBegin t at at ≡ lineBegin at (split 9 (between t at e))
   line-begin = let n : indexOf 10 (drop at t) ≡ e - at = omega arith in rw (le-ltb at at (omega arith), n)

@@ -121,7 +121,7 @@ module _ {t : Bytes} {at : ℕ} {tally : Tally} {e : ℕ} {l : Bytes} {k : ℕ} 
           omega (arith, w),
         )
 
-    -- where the line's first field counts, by what its first field is
+    -- where the first field that counts begins, by what the line's first field is
     begin-by : (b : Bool) → sameBytes (take k l) (text "H") || isGafHead (take k l) ≡ b → fieldBegin t at at ≡ cond b (at + k + 1) at
     begin-by b s =
         begin-head t at e (line .end) k head-at (rw (line .whole) at m)

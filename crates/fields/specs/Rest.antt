@@ -57,13 +57,14 @@ lineField content offset start size stop =
 abbrev pub refuseField : Field → Tally → ℕ → Reading
 refuseField f tally = refuse (tally .lines) (f .offset) (f .start) (f .size)
 
--- where the first field counts of a line that begins at `at`, by its fields: its second one, if the line is an `H` or an `@` line
+-- where the first field that counts begins in a line from `at` on, by the line's fields: the second of an `H` or an `@` line; of any other
+-- line, which is refused, the first
 abbrev pub lineBegin : ℕ → List Bytes → ℕ
 lineBegin at [] = at
 lineBegin at (head ∷ []) = at
 lineBegin at (head ∷ f ∷ fs) = cond (sameBytes head (text "H") || isGafHead head) (at + length head + 1) at
 
--- the byte of the text at which the next field begins from `at` on: a part of what stops at `stop`, or the first field of the next line
+-- the byte of the text at which the next field begins from `at` on: a part of what stops at `stop`, or the first that counts of the next line
 abbrev pub fieldBegin : Bytes → ℕ → ℕ → ℕ
 fieldBegin t stop at = cond (ltb at stop) at (lineBegin at (split 9 (take (indexOf 10 (drop at t)) (drop at t))))
 

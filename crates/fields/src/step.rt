@@ -16,9 +16,9 @@ pub struct Tally {
     pub fields: usize,
 }
 
-// A field: what it says; the byte of the whole text at which it begins (an `@` line with its second field, any other line that is refused
-// whole with the line); the part of the text in which its places are counted and which a refusal quotes; where the next one begins, and where
-// its line stops (one past the line's end).
+// A field: what it says; the byte of the whole text at which it begins (an `@` line counts as one field, which begins with its second); the
+// part of the text in which its places are counted and which a refusal quotes; where the next one begins, and where its line stops (one
+// past the line's end).
 pub struct Field {
     pub content: Content,
     pub offset: usize,

@@ -4,7 +4,7 @@ use mathlib.Core.List.{List, [], _∷_}
 use mathlib.Core.Option.{Option, some, none}
 use Prim.Native.Nat.{ℕ, suc, _+_}
 use lib.ListN.{length, take, drop, getD}
-use lib.Dec.{eqb, ltb, leb}
+use lib.Dec.{eqb, leb}
 use Rattle.model.specs.Text.{text}
 use Rattle.model.specs.Bytes.{Bytes, sameBytes, isEmpty, split}
 use Rattle.model.specs.declared.Kind.{Kind}
