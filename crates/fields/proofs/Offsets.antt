@@ -14,8 +14,8 @@ use Rattle.model.specs.declared.Kind.the-variants.{Subgraph, Translation}
 use Rattle.model.specs.Text.{text}
 use Rattle.model.specs.Bytes.{Bytes, sameBytes, isEmpty, split}
 use Rattle.model.specs.Record.{Pair, GraphName, empty, withName, withPair, names, anyLong, bodies, judge, maxNames, maxPairs, maxBodiesBytes}
-use Rattle.model.specs.Reading.{Refusal, Reading, done, refused, Taken, took, wrong, judged, twoParts, orWrong, addTo, isTyped, typedField, isGafHead, gafLine, afterTaken, afterReading, quotes, refuse, typedFields, lineFields, linesFrom, withoutLastEmpty, fromHeaderLines, tagRelations, tagValue, nameValue, fromTags}
-use Rattle.model.specs.Statements.{Behind, Begins, ofLine, PlacedInLines, BeginsIn, QuotedIn, PlacedInTags, OffsetRight}
+use Rattle.model.specs.Reading.{Refusal, Reading, done, refused, Taken, took, wrong, judged, twoParts, orWrong, addTo, isTyped, typedField, isGafHead, gafLine, afterTaken, afterReading, quotes, refuse, typedFields, lineFields, linesFrom, withoutLastEmpty, fromHeaderLines, tagNumber, tagRelations, tagValue, nameValue, fromTags}
+use Rattle.model.specs.Statements.{Behind, Begins, ofLine, PlacedInLines, BeginsIn, QuotedIn, tagOf, PlacedInTags, OffsetRight}
 use Rattle.text.proofs.Tests.{either-way}
 use Rattle.fields.specs.Fields.{FieldMeaning, fault, nothing, named, related, apply, relatedBy, relatedByTag, oneNamed, classifyString, classifyTyped, classifyGaf}
 use Rattle.fields.proofs.Classified.{typed-classified, gaf-classified, relation-classified}
@@ -302,17 +302,30 @@ module _ (t : Bytes) where
 
 -- ------------------------------------------------------------------ tags
 
--- a refusal within the value v of the tag of a kind, whose relations are refused with m
-abbrev InValue : Kind → ℕ → Bytes → Refusal → Type 0
-InValue k m v r = ((r .number ≡ m) × (BeginsIn (some v) r × QuotedIn k (some v) r)) ⊎ ((10 < r .number) × BeginsIn (some v) r)
+tag-range : (k : Kind) → (9 ≤ tagNumber k) × (tagNumber k ≤ 10)
+tag-range Subgraph = omega arith
+tag-range Translation = omega arith
 
-module _ (k : Kind) (m : ℕ) (lo : 9 ≤ m) (hi : m ≤ 10) where
+-- a tag's number tells its kind
+kind-told : (j k : Kind) → tagNumber j ≡ tagNumber k → j ≡ k
+kind-told Subgraph Subgraph e = refl
+kind-told Subgraph Translation e = absurd (omega arith)
+kind-told Translation Subgraph e = absurd (omega arith)
+kind-told Translation Translation e = refl
+
+-- a refusal within the value of the tag of a kind
+abbrev InValue : Kind → Option Bytes → Refusal → Type 0
+InValue k o r = ((r .number ≡ tagNumber k) × (BeginsIn o r × QuotedIn k o r)) ⊎ ((10 < r .number) × BeginsIn o r)
+
+module _ (k : Kind) where
   relation-placed : (v : Bytes) (start : ℕ) (w : Bytes) (n : ℕ) → Begins 59 v start → Stands v start w
-      → Alone m m (relatedBy k m (twoParts (split 44 w))) n ⊎ (10 < n) → OfRefusal (InValue k m v) (refuse 0 start start (length w) n)
+      → Alone (tagNumber k) (tagNumber k) (relatedBy k (tagNumber k) (twoParts (split 44 w))) n ⊎ (10 < n)
+      → OfRefusal (InValue k (some v)) (refuse 0 start start (length w) n)
   unfolding tagRelations
   relation-placed v start w n b s (inl a) =
+      let m = tagNumber k in
       let e : n ≡ m = omega (arith, a .0, a .1) in
-      let q : (leb 2 m ≡ true) × (leb m 10 ≡ true) = (le-leb 2 m (omega arith), le-leb m 10 hi) in
+      let q : (leb 2 m ≡ true) × (leb m 10 ≡ true) = (le-leb 2 m (omega (arith, tag-range k)), le-leb m 10 (tag-range k .1)) in
       rw (e, q .0, q .1)
       (inl (
         refl,
@@ -329,28 +342,23 @@ module _ (k : Kind) (m : ℕ) (lo : 9 ≤ m) (hi : m ≤ 10) where
       rw (le-leb 2 n (omega arith), lt-leb n 10 h) (inr (h, (omega (arith, s .0), b)))
 
   relations-placed : (v : Bytes) (start : ℕ) (ws : List Bytes) (g : GraphName) → Follow 59 (Begins 59 v) v start ws
-      → OfRefusal (InValue k m v) (tagRelations m (addTo k) start ws g)
+      → OfRefusal (InValue k (some v)) (tagRelations (tagNumber k) (addTo k) start ws g)
   unfolding tagRelations Follow
   relations-placed v start [] g p = tt
   relations-placed v start (w ∷ ws) g p =
+      let m = tagNumber k in
       let parts = twoParts (split 44 w) in
-      after-taken (InValue k m v) (orWrong m (addTo k g parts)) _ _ (λ g′. relations-placed v (start + length w + 1) ws g′ (p .3)) λ n e.
+      after-taken (InValue k (some v)) (orWrong m (addTo k g parts)) _ _ (λ g′. relations-placed v (start + length w + 1) ws g′ (p .3)) λ n e.
       relation-placed v start w n (p .0) (p .1)
       (field-wrong m m g (relatedBy k m parts) (related-in m m m (omega arith) (omega arith) k parts) n (sym (relation-classified g k m parts) ∙ e))
 
   -- the whole value, where it is there
-  value-placed : (P : Refusal → Type 0) (o : Option Bytes) → ((v : Bytes) → o ≡ some v → (r : Refusal) → InValue k m v r → P r) → (g : GraphName)
-      → OfRefusal P (tagValue m (addTo k) o g)
+  value-placed : (o : Option Bytes) (g : GraphName) → OfRefusal (InValue k o) (tagValue (tagNumber k) (addTo k) o g)
   unfolding tagValue
-  value-placed P none f g = tt
-  value-placed P (some v) f g = go (tagRelations m (addTo k) 0 (split 59 v) g) (relations-placed v 0 (split 59 v) g (follow-from 59 (Begins 59 v) v 0 (split 59 v) (inl refl) p))
-    where
-      p : Parts 59 (Begins 59 v) v 0 (split 59 v)
-      p = split-stands 59 (Begins 59 v) v 0 (length v) (λ i l h e. inr (behind 59 v i e)) v 0 (omega arith) (omega arith) (all-stands v)
-
-      go : (x : Reading) → OfRefusal (InValue k m v) x → OfRefusal P x
-      go (done g) h = tt
-      go (refused r) h = f v refl r h
+  value-placed none g = tt
+  value-placed (some v) g =
+      let p = split-stands 59 (Begins 59 v) v 0 (length v) (λ i l h e. inr (behind 59 v i e)) v 0 (omega arith) (omega arith) (all-stands v) in
+      relations-placed v 0 (split 59 v) g (follow-from 59 (Begins 59 v) v 0 (split 59 v) (inl refl) p)
 
 module _ (s t : Option Bytes) where
   name-placed : (n : Option Bytes) (g : GraphName) → OfRefusal (PlacedInTags s t) (nameValue n g)
@@ -360,42 +368,32 @@ module _ (s t : Option Bytes) where
       let h = judged-wrong (withName v g) n e in
       rw (le-leb 2 n (omega arith), lt-leb n 10 h)
       (record {
-        subgraph = λ (d : n ≡ 9). absurd (omega arith);
-        translation = λ (d : n ≡ 10). absurd (omega arith);
+        relation = λ k (d : n ≡ tagNumber k). absurd (omega (arith, tag-range k));
         sizes = λ l. inl refl;
       })
 
-  subgraph-placed : (v : Bytes) → s ≡ some v → (r : Refusal) → InValue Subgraph 9 v r → PlacedInTags s t r
-  subgraph-placed v e r (inl h) = rw e (record {
-    subgraph = λ d. h .1;
-    translation = λ (d : r .number ≡ 10). absurd (omega (arith, h .0));
-    sizes = λ (l : 10 < r .number). absurd (omega (arith, h .0));
-  })
-  subgraph-placed v e r (inr h) = rw e (record {
-    subgraph = λ (d : r .number ≡ 9). absurd (omega (arith, h .0));
-    translation = λ (d : r .number ≡ 10). absurd (omega (arith, h .0));
-    sizes = λ l. inr (inl (h .1));
-  })
+  in-tags : (k : Kind) (r : Refusal) → InValue k (tagOf k s t) r → PlacedInTags s t r
+  in-tags k r (inl h) = record {
+    relation = λ j d. subst (λ (i : Kind). BeginsIn (tagOf i s t) r × QuotedIn i (tagOf i s t) r) (kind-told k j (sym (h .0) ∙ d)) (h .1);
+    sizes = λ (l : 10 < r .number). absurd (omega (arith, h .0, tag-range k));
+  }
+  in-tags k r (inr h) = record {
+    relation = λ j (d : r .number ≡ tagNumber j). absurd (omega (arith, h .0, tag-range j));
+    sizes = λ l. inr (k, h .1);
+  }
 
-  translation-placed : (v : Bytes) → t ≡ some v → (r : Refusal) → InValue Translation 10 v r → PlacedInTags s t r
-  translation-placed v e r (inl h) = rw e (record {
-    subgraph = λ (d : r .number ≡ 9). absurd (omega (arith, h .0));
-    translation = λ d. h .1;
-    sizes = λ (l : 10 < r .number). absurd (omega (arith, h .0));
-  })
-  translation-placed v e r (inr h) = rw e (record {
-    subgraph = λ (d : r .number ≡ 9). absurd (omega (arith, h .0));
-    translation = λ (d : r .number ≡ 10). absurd (omega (arith, h .0));
-    sizes = λ l. inr (inr (h .1));
-  })
+  tag-placed : (k : Kind) (g : GraphName) → OfRefusal (PlacedInTags s t) (tagValue (tagNumber k) (addTo k) (tagOf k s t) g)
+  tag-placed k g = go (tagValue (tagNumber k) (addTo k) (tagOf k s t) g) (value-placed k (tagOf k s t) g)
+    where
+      go : (x : Reading) → OfRefusal (InValue k (tagOf k s t)) x → OfRefusal (PlacedInTags s t) x
+      go (done g) h = tt
+      go (refused r) h = in-tags k r h
 
   tags-placed : (n : Option Bytes) → OfRefusal (PlacedInTags s t) (fromTags n s t)
   unfolding fromTags
   tags-placed n =
       after-reading (PlacedInTags s t) (nameValue n empty) _ (name-placed n empty) λ g.
-      after-reading (PlacedInTags s t) (tagValue 9 (addTo Subgraph) s g) (tagValue 10 (addTo Translation) t)
-      (value-placed Subgraph 9 (omega arith) (omega arith) (PlacedInTags s t) s subgraph-placed g)
-      (value-placed Translation 10 (omega arith) (omega arith) (PlacedInTags s t) t translation-placed)
+      after-reading (PlacedInTags s t) (tagValue 9 (addTo Subgraph) s g) (tagValue 10 (addTo Translation) t) (tag-placed Subgraph g) (tag-placed Translation)
 
 pub offset-right : OffsetRight
 offset-right = record {

@@ -11,12 +11,12 @@ use borrow.Author.Tests.{lt-ltb, le-ltb, le-leb, ltb-true, ltb-false, leb-true}
 use Rattle.model.specs.Text.{text}
 use Rattle.model.specs.Bytes.{Bytes, indexOf, split, sameBytes}
 use Rattle.model.specs.Record.{GraphName, empty}
-use Rattle.model.specs.Reading.{Reading, twoParts, addTo, Taken, took, wrong, done, afterTaken, afterReading, refuse, typedField, typedFields, isGafHead, gafLine, lineFields, linesFrom, withoutLastEmpty, fromHeaderLines, tagRelations, tagValue}
+use Rattle.model.specs.Reading.{Reading, twoParts, addTo, Taken, took, wrong, done, afterTaken, afterReading, refuse, typedField, typedFields, isGafHead, gafLine, lineFields, linesFrom, withoutLastEmpty, fromHeaderLines, tagNumber, tagRelations, tagValue}
 use Rattle.text.proofs.Split.{split-from, split-last, split-more}
 use Rattle.text.proofs.Tests.{same-tests}
 use Rattle.fields.specs.Rest.{linesAt, partsAt, OneLine, restOf, lineBegin, fieldBegin}
 use Rattle.fields.specs.declared.step.Tally.{Tally}
-use Rattle.fields.specs.Fields.{apply, tagNumber, classifyPart, separatorOf}
+use Rattle.fields.specs.Fields.{apply, classifyPart, separatorOf}
 use Rattle.fields.specs.declared.field.Source.{Source}
 use Rattle.fields.specs.declared.field.Source.the-variants.{Header, Tag}
 use Rattle.model.specs.declared.Kind.{Kind}

@@ -10,7 +10,7 @@ use Rattle.model.specs.declared.Kind.the-variants.{Subgraph, Translation}
 use Rattle.model.specs.Text.{text}
 use Rattle.model.specs.Bytes.{Bytes, sameBytes, isEmpty, split}
 use Rattle.model.specs.Record.{Pair, GraphName, withName, withPair}
-use Rattle.model.specs.Reading.{Taken, took, wrong, judged, isTyped, twoParts}
+use Rattle.model.specs.Reading.{Taken, took, wrong, judged, isTyped, twoParts, tagNumber}
 use Rattle.fields.specs.declared.field.Source.{Source}
 use Rattle.fields.specs.declared.field.Source.the-variants.{Header, Tag}
 
@@ -36,11 +36,6 @@ relatedBy k n (some p) = related k p
 -- a relation of a tag, which is of the tag's kind
 abbrev pub classifyRelation : Kind → ℕ → Bytes → FieldMeaning
 classifyRelation k n r = relatedBy k n (twoParts (split 44 r))
-
--- the number for a wrong relation of a tag
-abbrev pub tagNumber : Kind → ℕ
-tagNumber Subgraph = 9
-tagNumber Translation = 10
 
 -- the tags of relations, with the numbers for a wrong subgraph and a wrong translation
 abbrev pub relatedByTag : Bytes → ℕ → ℕ → List Bytes → FieldMeaning

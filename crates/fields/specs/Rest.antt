@@ -8,8 +8,8 @@ use lib.Dec.{ltb}
 use Rattle.model.specs.Text.{text}
 use Rattle.model.specs.Bytes.{Bytes, sameBytes, indexOf, split}
 use Rattle.model.specs.Record.{GraphName}
-use Rattle.model.specs.Reading.{Reading, afterTaken, afterReading, refuse, typedFields, isGafHead, linesFrom, addTo, tagRelations, withoutLastEmpty}
-use Rattle.fields.specs.Fields.{apply, tagNumber}
+use Rattle.model.specs.Reading.{Reading, afterTaken, afterReading, refuse, typedFields, isGafHead, linesFrom, addTo, tagNumber, tagRelations, withoutLastEmpty}
+use Rattle.fields.specs.Fields.{apply}
 use Rattle.fields.specs.Contents.{meaningOf, PlacesIn}
 use Rattle.fields.specs.declared.field.Source.{Source}
 use Rattle.fields.specs.declared.field.Source.the-variants.{Header, Tag}

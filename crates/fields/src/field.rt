@@ -5,8 +5,8 @@ ghost use mathlib.Core.List.{[], _∷_};
 ghost use Prim.Native.Nat.{_+_, _≤_, _<_};
 ghost use lib.ListN.{length, take, drop};
 ghost use Rattle.model.specs.Bytes.{sameBytes, split};
-ghost use Rattle.model.specs.Reading.{twoParts};
-ghost use Rattle.fields.specs.Fields.{relatedBy, relatedByTag, oneNamed, classifyString, classifyTyped, tagNumber, classifyGaf, classifyPart, separatorOf};
+ghost use Rattle.model.specs.Reading.{twoParts, tagNumber};
+ghost use Rattle.fields.specs.Fields.{relatedBy, relatedByTag, oneNamed, classifyString, classifyTyped, classifyGaf, classifyPart, separatorOf};
 ghost use Rattle.fields.specs.Contents.{typeOf, partsOf, NeitherEmpty, meaningOf, PlacesIn};
 
 // The type of a typed field: none, a string (Z), or another.

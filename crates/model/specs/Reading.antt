@@ -125,6 +125,11 @@ withoutLastEmpty (w ∷ v ∷ ws) = w ∷ withoutLastEmpty (v ∷ ws)
 unfoldable pub fromHeaderLines : Bytes → Reading
 fromHeaderLines t = linesFrom 1 0 (withoutLastEmpty (split 10 t)) empty
 
+-- the number of a wrong relation in the tag of a kind
+abbrev pub tagNumber : Kind → ℕ
+tagNumber Subgraph = 9
+tagNumber Translation = 10
+
 -- the relations of one tag, between semicolons
 unfoldable pub tagRelations : ℕ → (GraphName → Option Pair → Option GraphName) → ℕ → List Bytes → GraphName → Reading
 tagRelations n add start [] g = done g

@@ -17,7 +17,7 @@ use Rattle.model.specs.declared.Strictness.{Strictness}
 use Rattle.model.specs.declared.Strictness.the-variants.{Fine, Faulty}
 use Rattle.model.specs.Record.{Pair, GraphName, empty, comparePairs, judge, names}
 use Rattle.model.specs.Layout.{recordLength, encode, decode}
-use Rattle.model.specs.Reading.{Refusal, Reading, done, refused, addTo, quotes, typedFields, lineFields, fromHeaderLines, tagRelations, fromTags}
+use Rattle.model.specs.Reading.{Refusal, Reading, done, refused, addTo, quotes, typedFields, lineFields, fromHeaderLines, tagNumber, tagRelations, fromTags}
 use Rattle.model.specs.Writing.{toGfaHeaderLines, toGafHeaderLines, relationsTag}
 use Rattle.model.specs.Path.{Step, pathBytes}
 use Rattle.model.specs.Outcome.{Outcome, readInto, readTagsInto, refusalInto, newRecord, addSubgraph, addTranslation, addRelationships, makeSubgraphOf, addTranslationTo}
@@ -117,13 +117,17 @@ BeginsIn (some v) r = (r .offset ≤ length v) × Begins 59 v (r .offset)
 
 abbrev pub QuotedIn : Kind → Option Bytes → Refusal → Type 0
 QuotedIn k none r = ⊥
-QuotedIn k (some v) r = Quoted v r (λ w. tagRelations (r .number) (addTo k) (r .offset) (w ∷ []) empty)
+QuotedIn k (some v) r = Quoted v r (λ w. tagRelations (tagNumber k) (addTo k) (r .offset) (w ∷ []) empty)
 
--- of 11 to 14 the offset is counted in either tag, or is 0, as it is of the own name
+-- the value of the tag of a kind
+abbrev pub tagOf : Kind → Option Bytes → Option Bytes → Option Bytes
+tagOf Subgraph s t = s
+tagOf Translation s t = t
+
+-- the offset of a wrong relation is counted in the tag of its kind; that of 11 to 14 in either tag, or it is 0, as for the own name
 pub record PlacedInTags (s t : Option Bytes) (r : Refusal) : Type 0 where
-  pub subgraph : r .number ≡ 9 → BeginsIn s r × QuotedIn Subgraph s r
-  pub translation : r .number ≡ 10 → BeginsIn t r × QuotedIn Translation t r
-  pub sizes : 10 < r .number → (r .offset ≡ 0) ⊎ (BeginsIn s r ⊎ BeginsIn t r)
+  pub relation : (k : Kind) → r .number ≡ tagNumber k → BeginsIn (tagOf k s t) r × QuotedIn k (tagOf k s t) r
+  pub sizes : 10 < r .number → (r .offset ≡ 0) ⊎ ((k : Kind) × BeginsIn (tagOf k s t) r)
 
 pub record OffsetRight : Type 0 where
   pub header-lines : (t : Bytes) (r : Refusal) → fromHeaderLines t ≡ refused r → PlacedInLines t r

@@ -7,7 +7,7 @@ use Rattle.model.specs.declared.Kind.{Kind}
 use Rattle.model.specs.declared.Kind.the-variants.{Subgraph, Translation}
 use Rattle.model.specs.Bytes.{Bytes}
 use Rattle.model.specs.Record.{GraphName, empty, withName}
-use Rattle.model.specs.Reading.{judged, Reading, done, refused, afterReading, nameValue, addTo, tagValue, fromTags}
+use Rattle.model.specs.Reading.{judged, Reading, done, refused, afterReading, nameValue, addTo, tagNumber, tagValue, fromTags}
 use Rattle.sorted.specs.declared.putting.Sizes.{Sizes}
 use Rattle.sorted.specs.Tables.{Tables}
 use Rattle.intake.specs.declared.taking.State.{State}
@@ -17,7 +17,6 @@ use Rattle.parse.specs.declared.ending.Refusal.{Refusal}
 use Rattle.parse.specs.declared.ending.Ended.{Ended}
 use Rattle.parse.specs.declared.ending.Ended.the-variants.{Done, Refused}
 use Rattle.fields.specs.declared.field.Source.the-variants.{Tag}
-use Rattle.fields.specs.Fields.{tagNumber}
 use Rattle.fields.specs.Rest.{restOf}
 use Rattle.intake.specs.State.{graphNow, FittingState, FittingAfter, TakenAs}
 use Rattle.parse.specs.Refusals.{refusalGiven, unplaced}
