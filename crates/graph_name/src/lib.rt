@@ -1,7 +1,7 @@
 // The exported functions: each operation of the library as a function on pointers, lengths and numbers, for C and Rust to call.
 //
-// The result is a number of docs/FORMAT.md, 0 for done. A number behind a `&mut u64` is written on 0 only. Each promise is an equation with a
-// definition of `model/specs`, on the arguments alone.
+// The result is a number of docs/FORMAT.md, 0 for done. A number behind a `&mut u64` is written on 0 only, but for the four of a reading, which
+// are always written. Each promise is an equation with a definition of `model/specs`, on the arguments alone.
 mod edits;
 mod lines;
 mod path_questions;

@@ -42,7 +42,7 @@ fn refused_at(c: Counts, t: &[u8], stated: usize, line: usize, offset: usize) ->
     }
 }
 
-// The line with a bad field as its last, and with a long name as its last, behind so much of a text.
+// The line with a bad field as its last, and with a long name as its last, behind other lines.
 fn both_faults(c: Counts, before: &[u8], line: usize, offset: usize) -> Counts {
     let mut space = io::large_buffer();
     let out: &mut [u8] = &mut space;
