@@ -5,90 +5,90 @@ use mathlib.Core.Option.{Option, some, none}
 use Prim.Native.Nat.{ℕ, zero, suc, ◌+◌, ◌-◌, ◌*◌, ◌≤◌, ◌<◌}
 use native.Mathlib.Omega.{arith}
 use lib.ListN.{length}
-use Rattle.model.specs.Record.{maxNames}
+use Rattle.model.specs.Record.{max_names}
 use Rattle.model.specs.declared.Kind.{Kind}
 use Rattle.model.specs.declared.Kind.TheVariants.{Subgraph, Translation}
-use Rattle.model.specs.Bytes.{Bytes, sameBytes}
-use Rattle.model.specs.Layout.{pairLength, nameCount, ownNumber, pairCount, tableAt, fromPlace, toPlace, shown}
-use Rattle.model.specs.Opening.{Given, gives, isSome, faultOf, faultOfBoth}
-use Rattle.model.specs.Outcome.{nameOr}
-use Rattle.model.specs.Questions.{Counts, countsIn, Part, PairParts, nameIn, nameAtIn, pairAtIn, sameName, isSameIn}
+use Rattle.model.specs.Bytes.{Bytes, same_bytes}
+use Rattle.model.specs.Layout.{pair_length, name_count, own_number, pair_count, table_at, from_place, to_place, shown}
+use Rattle.model.specs.Opening.{Given, gives, is_some, fault_of, fault_of_both}
+use Rattle.model.specs.Outcome.{name_or}
+use Rattle.model.specs.Questions.{Counts, counts_in, Part, PairParts, name_in, name_at_in, pair_at_in, same_name, is_same_in}
 use Rattle.record.proofs.Own.{named, unnamed}
 use Rattle.record.proofs.Held.{Held}
-use Rattle.record.proofs.Opening.{record-opened, two-opened, asked-shown, both-shown}
-use Rattle.record.proofs.Access.{record-count, record-pairCount, pair-within}
-use Rattle.record.proofs.Parts.{entryPart, entryParts, name_in, name_out, own_in, own_out, pair-in, pair-out}
+use Rattle.record.proofs.Opening.{record_opened, two_opened, asked_shown, both_shown}
+use Rattle.record.proofs.Access.{record_count, record_pair_count, pair_within}
+use Rattle.record.proofs.Parts.{entry_part, entry_parts, name_in_lem, name_out, own_in_lem, own_out, pair_in, pair_out}
 
-module _ (b : Bytes) (z : faultOf b ≡ 0) where
+module _ (b : Bytes) (z : fault_of b ≡ 0) where
   pub held : Held b
-  held = (record-opened b z).0.held
+  held = (record_opened b z).0.held
 
-  pub counts-given : (n s t : ℕ) → n ≡ nameCount b → s ≡ pairCount Subgraph b → t ≡ pairCount Translation b
-      → ◌≡◌ {A = Given Counts} (gives (record { names = n; subgraph = s; translation = t })) (countsIn b)
-  unfolding countsIn
-  counts-given n s t en es et =
-      let d = (record-opened b z).0.decoded in
-      sym (asked-shown b _ z ∙ rw (record-count b (shown b) d, record-pairCount b (shown b) d Subgraph, record-pairCount b (shown b) d Translation, en, es, et))
+  pub counts_given : (n s t : ℕ) → n ≡ name_count b → s ≡ pair_count Subgraph b → t ≡ pair_count Translation b
+      → ◌≡◌ {A = Given Counts} (gives (record { names = n; subgraph = s; translation = t })) (counts_in b)
+  unfolding counts_in
+  counts_given n s t en es et =
+      let d = (record_opened b z).0.decoded in
+      sym (asked_shown b _ z ∙ rw (record_count b (shown b) d, record_pair_count b (shown b) d Subgraph, record_pair_count b (shown b) d Translation, en, es, et))
 
-  pub name_absent : ownNumber b ≡ 0 → ◌≡◌ {A = Given (Option Part)} (gives none) (nameIn b)
-  unfolding nameIn
-  name_absent e = let d = (record-opened b z).0.decoded in sym (asked-shown b _ z ∙ rw (own_out b (shown b) d e))
+  pub name_absent : own_number b ≡ 0 → ◌≡◌ {A = Given (Option Part)} (gives none) (name_in b)
+  unfolding name_in
+  name_absent e = let d = (record_opened b z).0.decoded in sym (asked_shown b _ z ∙ rw (own_out b (shown b) d e))
 
-  pub name-given : (own : ℕ) → own ≡ ownNumber b → (own ≡ 0 → ⊥) → gives (some (entryPart b (own - 1))) ≡ nameIn b
-  unfolding nameIn
-  name-given zero e n = absurd (n refl)
-  name-given (suc i) e n =
-      let d = (record-opened b z).0.decoded in
+  pub name_given : (own : ℕ) → own ≡ own_number b → (own ≡ 0 → ⊥) → gives (some (entry_part b (own - 1))) ≡ name_in b
+  unfolding name_in
+  name_given zero e n = absurd (n refl)
+  name_given (suc i) e n =
+      let d = (record_opened b z).0.decoded in
       let j : suc i - 1 ≡ i = omega arith in
-      rw j (sym (asked-shown b _ z ∙ ap gives (own_in b (shown b) d i (sym e))))
+      rw j (sym (asked_shown b _ z ∙ ap gives (own_in_lem b (shown b) d i (sym e))))
 
-  pub at-absent : (i : ℕ) → nameCount b ≤ i → ◌≡◌ {A = Given (Option Part)} (gives none) (nameAtIn b i)
-  unfolding nameAtIn
-  at-absent i h = let d = (record-opened b z).0.decoded in sym (asked-shown b _ z ∙ ap gives (name_out b (shown b) d i h))
+  pub at_absent : (i : ℕ) → name_count b ≤ i → ◌≡◌ {A = Given (Option Part)} (gives none) (name_at_in b i)
+  unfolding name_at_in
+  at_absent i h = let d = (record_opened b z).0.decoded in sym (asked_shown b _ z ∙ ap gives (name_out b (shown b) d i h))
 
-  pub at-given : (i : ℕ) → i < nameCount b → gives (some (entryPart b i)) ≡ nameAtIn b i
-  unfolding nameAtIn
-  at-given i h = let d = (record-opened b z).0.decoded in sym (asked-shown b _ z ∙ ap gives (name_in b (shown b) d i h))
+  pub at_given : (i : ℕ) → i < name_count b → gives (some (entry_part b i)) ≡ name_at_in b i
+  unfolding name_at_in
+  at_given i h = let d = (record_opened b z).0.decoded in sym (asked_shown b _ z ∙ ap gives (name_in_lem b (shown b) d i h))
 
-  pub pair-absent : (k : Kind) (i : ℕ) → pairCount k b ≤ i → ◌≡◌ {A = Given (Option PairParts)} (gives none) (pairAtIn k b i)
-  unfolding pairAtIn
-  pair-absent k i h = let d = (record-opened b z).0.decoded in sym (asked-shown b _ z ∙ rw (pair-out b (shown b) d k i h))
+  pub pair_absent : (k : Kind) (i : ℕ) → pair_count k b ≤ i → ◌≡◌ {A = Given (Option PairParts)} (gives none) (pair_at_in k b i)
+  unfolding pair_at_in
+  pair_absent k i h = let d = (record_opened b z).0.decoded in sym (asked_shown b _ z ∙ rw (pair_out b (shown b) d k i h))
 
-  pub pair-given : (k : Kind) (i : ℕ) → i < pairCount k b
-      → gives (some (entryParts b (fromPlace b (tableAt k b + pairLength * i)) (toPlace b (tableAt k b + pairLength * i)))) ≡ pairAtIn k b i
-  unfolding pairAtIn
-  pair-given k i h = let d = (record-opened b z).0.decoded in sym (asked-shown b _ z ∙ ap gives (pair-in b (shown b) d k i h))
+  pub pair_given : (k : Kind) (i : ℕ) → i < pair_count k b
+      → gives (some (entry_parts b (from_place b (table_at k b + pair_length * i)) (to_place b (table_at k b + pair_length * i)))) ≡ pair_at_in k b i
+  unfolding pair_at_in
+  pair_given k i h = let d = (record_opened b z).0.decoded in sym (asked_shown b _ z ∙ ap gives (pair_in b (shown b) d k i h))
 
   -- the places of a pair, and where they stand, are small
-  pub pair_small : (k : Kind) (i : ℕ) → i < pairCount k b
-      → (tableAt k b + pairLength * i + pairLength ≤ length b) × (fromPlace b (tableAt k b + pairLength * i) < maxNames) × (toPlace b (tableAt k b + pairLength * i) < maxNames)
+  pub pair_small : (k : Kind) (i : ℕ) → i < pair_count k b
+      → (table_at k b + pair_length * i + pair_length ≤ length b) × (from_place b (table_at k b + pair_length * i) < max_names) × (to_place b (table_at k b + pair_length * i) < max_names)
   pair_small k i h =
-      let r = (record-opened b z).0 in
-      let w = pair-within b (shown b) r.decoded k i h in
+      let r = (record_opened b z).0 in
+      let w = pair_within b (shown b) r.decoded k i h in
       let d = r.held in
       (table k h, omega arith, omega arith)
     where
-      table : (k : Kind) → i < pairCount k b → tableAt k b + pairLength * i + pairLength ≤ length b
-      table Subgraph l = let d = (record-opened b z).0.held in omega arith
-      table Translation l = let d = (record-opened b z).0.held in omega arith
+      table : (k : Kind) → i < pair_count k b → table_at k b + pair_length * i + pair_length ≤ length b
+      table Subgraph l = let d = (record_opened b z).0.held in omega arith
+      table Translation l = let d = (record_opened b z).0.held in omega arith
 
-module _ (b c : Bytes) (z : faultOfBoth b c ≡ 0) where
-  pub both-held : Held b × Held c
-  both-held = let r = two-opened b c z in (r.0.held, r.1.held)
+module _ (b c : Bytes) (z : fault_of_both b c ≡ 0) where
+  pub both_held : Held b × Held c
+  both_held = let r = two_opened b c z in (r.0.held, r.1.held)
 
-  pub same-unnamed : isSome (shown b).name ≡ false → gives false ≡ isSameIn b c
-  unfolding isSameIn
-  same-unnamed e = sym (both-shown b c _ z ∙ rw (unnamed (shown b).name e))
+  pub same_unnamed : is_some (shown b).name ≡ false → gives false ≡ is_same_in b c
+  unfolding is_same_in
+  same_unnamed e = sym (both_shown b c _ z ∙ rw (unnamed (shown b).name e))
 
-  pub same-other-unnamed : isSome (shown c).name ≡ false → gives false ≡ isSameIn b c
-  unfolding isSameIn
-  same-other-unnamed e = sym (both-shown b c _ z ∙ rw (unnamed (shown c).name e) (ap gives (no_name (shown b).name)))
+  pub same_other_unnamed : is_some (shown c).name ≡ false → gives false ≡ is_same_in b c
+  unfolding is_same_in
+  same_other_unnamed e = sym (both_shown b c _ z ∙ rw (unnamed (shown c).name e) (ap gives (no_name (shown b).name)))
     where
-      no_name : (n : Option Bytes) → sameName n none ≡ false
+      no_name : (n : Option Bytes) → same_name n none ≡ false
       no_name none = refl
       no_name (some n) = refl
 
-  pub same-named : isSome (shown b).name ≡ true → isSome (shown c).name ≡ true
-      → gives (sameBytes (nameOr (shown b).name) (nameOr (shown c).name)) ≡ isSameIn b c
-  unfolding isSameIn
-  same-named d e = sym (both-shown b c _ z ∙ ap₂ (λ (m n : Option Bytes). gives (sameName m n)) (named (shown b).name d) (named (shown c).name e))
+  pub same_named : is_some (shown b).name ≡ true → is_some (shown c).name ≡ true
+      → gives (same_bytes (name_or (shown b).name) (name_or (shown c).name)) ≡ is_same_in b c
+  unfolding is_same_in
+  same_named d e = sym (both_shown b c _ z ∙ ap₂ (λ (m n : Option Bytes). gives (same_name m n)) (named (shown b).name d) (named (shown c).name e))

@@ -12,20 +12,20 @@ use Rattle.accessors.specs.declared.GivenPair.TheVariants as pair
 use Rattle.accessors.specs.declared.GivenBool.{GivenBool}
 use Rattle.accessors.specs.declared.GivenBool.TheVariants as bool
 
-abbrev pub countsGiven : GivenCounts → Given Counts
-countsGiven (counts.Refused n) = refuses n
-countsGiven (counts.Are n s t) = gives (record { names = n; subgraph = s; translation = t })
+abbrev pub counts_given : GivenCounts → Given Counts
+counts_given (counts.Refused n) = refuses n
+counts_given (counts.Are n s t) = gives (record { names = n; subgraph = s; translation = t })
 
-abbrev pub partGiven : GivenPart → Given (Option Part)
-partGiven (part.Refused n) = refuses n
-partGiven part.Absent = gives none
-partGiven (part.At s k) = gives (some (record { start = s; size = k }))
+abbrev pub part_given : GivenPart → Given (Option Part)
+part_given (part.Refused n) = refuses n
+part_given part.Absent = gives none
+part_given (part.At s k) = gives (some (record { start = s; size = k }))
 
-abbrev pub pairGiven : GivenPair → Given (Option PairParts)
-pairGiven (pair.Refused n) = refuses n
-pairGiven pair.Absent = gives none
-pairGiven (pair.At s k t l) = gives (some (record { from = record { start = s; size = k }; to = record { start = t; size = l } }))
+abbrev pub pair_given : GivenPair → Given (Option PairParts)
+pair_given (pair.Refused n) = refuses n
+pair_given pair.Absent = gives none
+pair_given (pair.At s k t l) = gives (some (record { from = record { start = s; size = k }; to = record { start = t; size = l } }))
 
-abbrev pub boolGiven : GivenBool → Given Bool
-boolGiven (bool.Refused n) = refuses n
-boolGiven (bool.Is t) = gives t
+abbrev pub bool_given : GivenBool → Given Bool
+bool_given (bool.Refused n) = refuses n
+bool_given (bool.Is t) = gives t

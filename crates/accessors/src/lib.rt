@@ -5,8 +5,8 @@
 #![tactic(auto)]
 
 ghost use Rattle.std.specs.Prelude.{◌≡◌};
-ghost use Rattle.model.specs.Questions.{countsIn, nameIn, nameAtIn, pairAtIn, isSameIn};
-ghost use Rattle.accessors.specs.Answers.{countsGiven, partGiven, pairGiven, boolGiven};
+ghost use Rattle.model.specs.Questions.{counts_in, name_in, name_at_in, pair_at_in, is_same_in};
+ghost use Rattle.accessors.specs.Answers.{counts_given, part_given, pair_given, bool_given};
 
 use model::Kind;
 use record::{
@@ -55,7 +55,7 @@ pub enum GivenBool {
 
 // How many distinct names and how many pairs of each kind a record holds.
 pub fn counts(b: &[u8]) -> GivenCounts
-    ensures { countsGiven result ≡ countsIn b.now }
+    ensures { counts_given result ≡ counts_in b.now }
 {
     let number = fault(b);
     if number != 0 {
@@ -72,7 +72,7 @@ pub fn counts(b: &[u8]) -> GivenCounts
 // The own name.
 #[tactic(auto, using(crate::proofs::Answers::name_absent))]
 pub fn name(b: &[u8]) -> GivenPart
-    ensures { partGiven result ≡ nameIn b.now }
+    ensures { part_given result ≡ name_in b.now }
 {
     let number = fault(b);
     if number != 0 {
@@ -91,7 +91,7 @@ pub fn name(b: &[u8]) -> GivenPart
 
 // The name at a place, in ascending order, counted from 0.
 pub fn name_place(b: &[u8], i: usize) -> GivenPart
-    ensures { partGiven result ≡ nameAtIn b.now i }
+    ensures { part_given result ≡ name_at_in b.now i }
 {
     let number = fault(b);
     if number != 0 {
@@ -110,7 +110,7 @@ pub fn name_place(b: &[u8], i: usize) -> GivenPart
 
 // The pair of a kind at a place, in ascending order, counted from 0.
 pub fn pair_place(b: &[u8], kind: Kind, i: usize) -> GivenPair
-    ensures { pairGiven result ≡ pairAtIn kind b.now i }
+    ensures { pair_given result ≡ pair_at_in kind b.now i }
 {
     let number = fault(b);
     if number != 0 {
@@ -133,7 +133,7 @@ pub fn pair_place(b: &[u8], kind: Kind, i: usize) -> GivenPair
 
 // Whether both records are named, by the same name.
 pub fn is_same(b: &[u8], c: &[u8]) -> GivenBool
-    ensures { boolGiven result ≡ isSameIn b.now c.now }
+    ensures { bool_given result ≡ is_same_in b.now c.now }
 {
     let number = fault_of_both(b, c);
     if number != 0 {

@@ -7,27 +7,27 @@ use native.Mathlib.Numerals.{add-one}
 use lib.ListN.{length, take, drop, set, get_or, replicate, length-drop, length-replicate, drop_of_length-le, take-append-drop, replicate-append-replicate, get_or-append}
 use lib.Seq.{drop-drop, length-take-le, get_or-take, get_or-drop, drop-cons, set-append_left, take-set-lt, take-suc-set}
 use Rattle.model.specs.Bytes.{Bytes, put}
-use Rattle.text.proofs.Put.{put-none, put_copy, put-snoc, drop-put}
+use Rattle.text.proofs.Put.{put_none, put_copy, put_snoc, drop_put}
 
 module _ (b : Bytes) (at : ℕ) (t : Bytes) (fits : at + length t ≤ length b) where
   -- before the text
-  pub getD-put-front : (k : ℕ) → k < at → get_or (put b at t) k 0 ≡ get_or b k 0
+  pub get_or_put_front : (k : ℕ) → k < at → get_or (put b at t) k 0 ≡ get_or b k 0
   unfolding put
-  getD-put-front k h =
+  get_or_put_front k h =
       let n = length-take-le at b (omega arith) in
       get_or-append (take at b) (t ++ drop (at + length t) b) 0 k (omega arith) ∙ get_or-take at b k 0 h
 
   -- behind the text
-  pub getD-put-back : (k : ℕ) → at + length t ≤ k → get_or (put b at t) k 0 ≡ get_or b k 0
-  getD-put-back k h =
+  pub get_or_put_back : (k : ℕ) → at + length t ≤ k → get_or (put b at t) k 0 ≡ get_or b k 0
+  get_or_put_back k h =
       let z : at + length t + (k - (at + length t)) + 0 ≡ k = omega arith in
-      let d = drop-put b at t fits (k - (at + length t)) in
+      let d = drop_put b at t fits (k - (at + length t)) in
       rw z at (rw (d, get_or-drop) at (sym (get_or-drop (at + length t + (k - (at + length t))) (put b at t) 0 0)))
 
 -- one more byte before a text
-pub put-cons : (b : Bytes) (at : ℕ) (t : Bytes) (x : ℕ) → at + 1 + length t ≤ length b → set (put b (at + 1) t) at x ≡ put b at (x ∷ t)
+pub put_cons : (b : Bytes) (at : ℕ) (t : Bytes) (x : ℕ) → at + 1 + length t ≤ length b → set (put b (at + 1) t) at x ≡ put b at (x ∷ t)
 unfolding put
-put-cons b at t x h =
+put_cons b at t x h =
     let r = t ++ drop (suc at + length t) b in
     let n = length-take-le (suc at) b (omega arith) in
     let e : at + suc (length t) ≡ suc at + length t = omega arith in
@@ -47,18 +47,18 @@ module _ (b : Bytes) (from n : ℕ) (fits : from + n ≤ length b) where
 
   -- nothing moved yet
   pub up_none : (to : ℕ) → b ≡ put b (to + n) (drop n (part b from n))
-  up_none to = sym (rw (drop_of_length-le (part b from n) {i = n} (rw length_part (omega arith))) (put-none b (to + n)))
+  up_none to = sym (rw (drop_of_length-le (part b from n) {i = n} (rw length_part (omega arith))) (put_none b (to + n)))
 
   up_step : (to : ℕ) (o : Bytes) (j : ℕ) → from ≤ to → to + n ≤ length b → j < n → o ≡ put b (to + (j + 1)) (drop (j + 1) (part b from n))
       → set o (to + j) (get_or o (from + j) 0) ≡ put b (to + j) (drop j (part b from n))
   up_step to o j le h k e =
       let p = part b from n in
       let l : length (drop (j + 1) p) ≡ n - (j + 1) = rw (length-drop, length_part) in
-      let g = getD-put-front b (to + (j + 1)) (drop (j + 1) p) (omega arith) (from + j) (omega arith) in
+      let g = get_or_put_front b (to + (j + 1)) (drop (j + 1) p) (omega arith) (from + j) (omega arith) in
       let v : get_or o (from + j) 0 ≡ get_or p j 0 = rw e (g ∙ sym (part_at j k)) in
       let d : drop j p ≡ get_or p j 0 ∷ drop (j + 1) p = rw add-one (drop-cons p j 0 (rw length_part k)) in
       let a : to + j + 1 ≡ to + (j + 1) = omega arith in
-      rw (v, e, d) (rw a at (put-cons b (to + j) (drop (j + 1) p) (get_or p j 0) (omega arith)))
+      rw (v, e, d) (rw a at (put_cons b (to + j) (drop (j + 1) p) (get_or p j 0) (omega arith)))
 
   -- a turn of the move towards the end
   pub up_turn : (to : ℕ) (o : Bytes) (i : ℕ) → from ≤ to → to + n ≤ length b → 0 < i → i ≤ n → o ≡ put b (to + i) (drop i (part b from n))
@@ -73,16 +73,16 @@ module _ (b : Bytes) (from n : ℕ) (fits : from + n ≤ length b) where
   down_turn to o i le k e =
       let p = part b from n in
       let l : length (take i p) ≡ i = length-take-le i p (rw length_part (omega arith)) in
-      let g = getD-put-back b to (take i p) (omega arith) (from + i) (omega arith) in
+      let g = get_or_put_back b to (take i p) (omega arith) (from + i) (omega arith) in
       let v : get_or o (from + i) 0 ≡ get_or p i 0 = rw e (g ∙ sym (part_at i k)) in
       rw v (put_copy b to p o i (rw length_part (omega arith)) (rw length_part k) e)
 
 -- a turn of the clearing
-pub clear-turn : (b : Bytes) (at n : ℕ) (o : Bytes) (i : ℕ) → at + n ≤ length b → i < n → o ≡ put b at (replicate i 0)
+pub clear_turn : (b : Bytes) (at n : ℕ) (o : Bytes) (i : ℕ) → at + n ≤ length b → i < n → o ≡ put b at (replicate i 0)
     → set o (at + i) 0 ≡ put b at (replicate (i + 1) 0)
-clear-turn b at n o i h k e =
+clear_turn b at n o i h k e =
     let l : length (replicate {A = ℕ} i 0) ≡ i = length-replicate i 0 in
-    rw (e, ← replicate-append-replicate {A = ℕ} i 1 0) (rw l at (put-snoc b at (replicate i 0) 0 (omega arith)))
+    rw (e, ← replicate-append-replicate {A = ℕ} i 1 0) (rw l at (put_snoc b at (replicate i 0) 0 (omega arith)))
 
 -- bytes moved to where they stand
 pub put_self : (b : Bytes) (at n : ℕ) → at + n ≤ length b → b ≡ put b at (take n (drop at b))

@@ -4,12 +4,12 @@ use Rattle.std.proofs.Math.Option.{some, none}
 use Rattle.model.specs.Bytes.{Bytes}
 use Rattle.model.specs.Record.{GraphName}
 use Rattle.model.specs.Layout.{decode}
-use Rattle.model.specs.Opening.{Given, gives, faultOfBoth}
-use Rattle.model.specs.Path.{Step, fullPath, pathBytes}
-use Rattle.model.specs.Describe.{afterLastEmpty, describePath}
-use Rattle.model.specs.Written.{within, withDescs}
-use Rattle.path_bytes.specs.Layout.{roomForPath}
-use Rattle.path_bytes.specs.Reading.{startAt, pathSteps}
+use Rattle.model.specs.Opening.{Given, gives, fault_of_both}
+use Rattle.model.specs.Path.{Step, full_path, path_bytes}
+use Rattle.model.specs.Describe.{after_last_empty, describe_path}
+use Rattle.model.specs.Written.{within, with_descs}
+use Rattle.path_bytes.specs.Layout.{room_for_path}
+use Rattle.path_bytes.specs.Reading.{start_at, path_steps}
 use Rattle.describe.specs.declared.direction.Direction.{Direction}
 use Rattle.describe.specs.declared.direction.Direction.TheVariants.{Refused, Forward, Backward, Neither}
 
@@ -19,7 +19,7 @@ pub record NoPath (b c : Bytes) : Type 0 where
   pub h : GraphName
   pub first : decode b ≡ some g
   pub second : decode c ≡ some h
-  pub path : fullPath g h ≡ none
+  pub path : full_path g h ≡ none
 
 -- two records, with a path from the first to the second whose bytes stand at the front of p
 pub record HasPath (b c p : Bytes) : Type 0 where
@@ -30,22 +30,22 @@ pub record HasPath (b c p : Bytes) : Type 0 where
   pub start : Bytes
   pub steps : List Step
   pub named : g.name ≡ some start
-  pub path : fullPath g h ≡ some steps
+  pub path : full_path g h ≡ some steps
   pub rest : Bytes
-  pub bytes : p ≡ pathBytes start steps ++ rest
-  pub size : length p ≡ roomForPath
+  pub bytes : p ≡ path_bytes start steps ++ rest
+  pub size : length p ≡ room_for_path
 
 -- what was found, and the path's bytes
 abbrev pub Finds : Bytes → Bytes → Direction → Bytes → Type 0
-Finds b c (Refused n) p = (n ≡ faultOfBoth b c) × (n ≢ 0)
+Finds b c (Refused n) p = (n ≡ fault_of_both b c) × (n ≢ 0)
 Finds b c Forward p = HasPath b c p
 Finds b c Backward p = HasPath c b p × NoPath b c
 Finds b c Neither p = NoPath c b × NoPath b c
 
 -- a text, after the test of the descs and of the room
-abbrev pub textWritten : Bytes → Bytes → Bytes → ℕ → Given Bytes
-textWritten t from to room = within room (withDescs from to (gives t))
+abbrev pub text_written : Bytes → Bytes → Bytes → ℕ → Given Bytes
+text_written t from to room = within room (with_descs from to (gives t))
 
 -- the text of the path whose bytes are p
-abbrev pub pathText : Bytes → Bytes → Bytes → Bytes
-pathText p from to = describePath (startAt p) (afterLastEmpty (pathSteps p)) from to
+abbrev pub path_text : Bytes → Bytes → Bytes → Bytes
+path_text p from to = describe_path (start_at p) (after_last_empty (path_steps p)) from to

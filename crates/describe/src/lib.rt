@@ -1,6 +1,6 @@
 // The description of how the graphs of two records are related, as the Rust words it.
 //
-// The public function takes any slices and equals the definition `relationshipWritten` of `model/specs/Written.antt`.
+// The public function takes any slices and equals the definition `relationship_written` of `model/specs/Written.antt`.
 #![tactic(auto)]
 
 mod direction;

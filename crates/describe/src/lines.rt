@@ -1,16 +1,16 @@
 // The single lines of a description.
 ghost use Rattle.std.specs.Prelude.{◌<◌};
-ghost use Rattle.model.specs.Describe.{nameIsFor, relationWords, graphLine};
+ghost use Rattle.model.specs.Describe.{name_is_for, relation_words, graph_line};
 ghost use Rattle.text.specs.Appending.{Appends};
-ghost use Rattle.path_bytes.specs.Reading.{kindNumbered};
-ghost use Rattle.describe.specs.Lines.{relationshipLine, shownName, OwnNameIn};
+ghost use Rattle.path_bytes.specs.Reading.{kind_numbered};
+ghost use Rattle.describe.specs.Lines.{relationship_line, shown_name, OwnNameIn};
 
 use record::{has_name, own_name};
 use text::{append, append_decimal};
 
 // Appends the line that says which desc graph n has.
 pub(crate) fn append_description(out: &mut [u8], at: usize, n: usize, desc: &[u8]) -> usize
-    ensures { Appends out.old at (nameIsFor n desc.now) result out.new }
+    ensures { Appends out.old at (name_is_for n desc.now) result out.new }
 {
     let p = append(out, at, b"Name ");
     let q = append_decimal(out, p, n);
@@ -21,7 +21,7 @@ pub(crate) fn append_description(out: &mut [u8], at: usize, n: usize, desc: &[u8
 
 // Appends the words for a step of this kind.
 fn append_relation(out: &mut [u8], at: usize, kind: usize) -> usize
-    ensures { Appends out.old at (relationWords (kindNumbered kind)) result out.new }
+    ensures { Appends out.old at (relation_words (kind_numbered kind)) result out.new }
 {
     if kind == 0 {
         return append(out, at, b" is a subgraph of graph ");
@@ -32,7 +32,7 @@ fn append_relation(out: &mut [u8], at: usize, kind: usize) -> usize
 // Appends the line of the step from graph i to the next.
 pub(crate) fn append_relationship(out: &mut [u8], at: usize, i: usize, kind: usize) -> usize
     requires { i < 65535 }
-    ensures { Appends out.old at (relationshipLine i (kindNumbered kind)) result out.new }
+    ensures { Appends out.old at (relationship_line i (kind_numbered kind)) result out.new }
 {
     let p = append(out, at, b"Graph ");
     let q = append_decimal(out, p, i);
@@ -43,7 +43,7 @@ pub(crate) fn append_relationship(out: &mut [u8], at: usize, i: usize, kind: usi
 
 // Appends the line that names graph i.
 pub(crate) fn append_graph(out: &mut [u8], at: usize, i: usize, name: &[u8]) -> usize
-    ensures { Appends out.old at (graphLine i name.now) result out.new }
+    ensures { Appends out.old at (graph_line i name.now) result out.new }
 {
     let p = append_decimal(out, at, i);
     let q = append(out, p, b"\t");
@@ -54,7 +54,7 @@ pub(crate) fn append_graph(out: &mut [u8], at: usize, i: usize, name: &[u8]) -> 
 // Appends the line that names graph i by a record's own name, or says that it has none.
 pub(crate) fn append_own_graph(out: &mut [u8], at: usize, i: usize, b: &[u8]) -> usize
     requires { OwnNameIn b.now }
-    ensures { Appends out.old at (graphLine i (shownName b.now)) result out.new }
+    ensures { Appends out.old at (graph_line i (shown_name b.now)) result out.new }
 {
     if !has_name(b) {
         return append_graph(out, at, i, b"(no name)");

@@ -1,10 +1,10 @@
 // How two graphs are related: the search, the exchange of the sides, and the text that is written if it fits.
 ghost use Rattle.std.specs.Prelude.{◌≡◌, ◌&&◌, leb, length};
-ghost use Rattle.model.specs.Written.{relationshipWritten};
+ghost use Rattle.model.specs.Written.{relationship_written};
 ghost use Rattle.export.specs.Answers.{Answers};
 ghost use Rattle.path_bytes.specs.Reading.{PathIn};
-ghost use Rattle.describe.specs.Lines.{noPathText, OwnNameIn};
-ghost use Rattle.describe.specs.Direction.{Finds, textWritten, pathText};
+ghost use Rattle.describe.specs.Lines.{no_path_text, OwnNameIn};
+ghost use Rattle.describe.specs.Direction.{Finds, text_written, path_text};
 
 use crate::direction::{Direction, find_path, path_room};
 use crate::steps::after_last_empty;
@@ -23,7 +23,7 @@ fn short(from: &[u8], to: &[u8]) -> bool
 // Writes the text of the path whose bytes are given.
 fn describe_path(path: &[u8], from: &[u8], to: &[u8], out: &mut [u8]) -> Written
     requires { PathIn path.now }
-    ensures { Answers (textWritten (pathText path.now from.now to.now) from.now to.now (length out.old)) out.old result out.new }
+    ensures { Answers (text_written (path_text path.now from.now to.now) from.now to.now (length out.old)) out.old result out.new }
 {
     if !short(from, to) {
         return Written::Refused(18);
@@ -45,7 +45,7 @@ fn describe_path(path: &[u8], from: &[u8], to: &[u8], out: &mut [u8]) -> Written
 // Writes the text of two graphs with no path between them.
 fn describe_no_path(b: &[u8], c: &[u8], from: &[u8], to: &[u8], out: &mut [u8]) -> Written
     requires { OwnNameIn b.now × OwnNameIn c.now }
-    ensures { Answers (textWritten (noPathText b.now c.now from.now to.now) from.now to.now (length out.old)) out.old result out.new }
+    ensures { Answers (text_written (no_path_text b.now c.now from.now to.now) from.now to.now (length out.old)) out.old result out.new }
 {
     if !short(from, to) {
         return Written::Refused(18);
@@ -68,7 +68,7 @@ fn describe_found(
     out: &mut [u8],
 ) -> Written
     requires { Finds b.now c.now found path.now }
-    ensures { Answers (relationshipWritten b.now c.now self_desc.now other_desc.now (length out.old)) out.old result out.new }
+    ensures { Answers (relationship_written b.now c.now self_desc.now other_desc.now (length out.old)) out.old result out.new }
 {
     match found {
         Direction::Refused(n) => Written::Refused(n),
@@ -86,7 +86,7 @@ pub fn describe_relationship<'a>(
     other_desc: &[u8],
     out: &mut [u8],
 ) -> Written
-    ensures { Answers (relationshipWritten b.now c.now self_desc.now other_desc.now (length out.old)) out.old result out.new }
+    ensures { Answers (relationship_written b.now c.now self_desc.now other_desc.now (length out.old)) out.old result out.new }
 {
     let mut path = path_room();
     let found = find_path(b, c, &mut path);

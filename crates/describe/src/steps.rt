@@ -1,7 +1,7 @@
 // The steps of a path that the description lists, by where they stand in the path's bytes, and their lines.
-ghost use Rattle.model.specs.Describe.{stepLines, graphLines};
+ghost use Rattle.model.specs.Describe.{step_lines, graph_lines};
 ghost use Rattle.text.specs.Appending.{Appends};
-ghost use Rattle.path_bytes.specs.Reading.{stepsAt, EntriesIn, StepsIn};
+ghost use Rattle.path_bytes.specs.Reading.{steps_at, EntriesIn, StepsIn};
 ghost use Rattle.describe.specs.Steps.{Listed};
 
 use crate::lines::{append_graph, append_relationship};
@@ -55,7 +55,7 @@ pub(crate) fn append_relationships(
     count: usize,
 ) -> usize
     requires { EntriesIn path.now entry count }
-    ensures { Appends out.old at (stepLines 1 (stepsAt path.now entry 0 count)) result out.new }
+    ensures { Appends out.old at (step_lines 1 (steps_at path.now entry 0 count)) result out.new }
 {
     let mut q = at;
     let mut i = 1;
@@ -81,7 +81,7 @@ pub(crate) fn append_graphs(
     last: &[u8],
 ) -> usize
     requires { StepsIn path.now entry body count }
-    ensures { Appends out.old at (graphLines 1 (stepsAt path.now entry body count) last.now) result out.new }
+    ensures { Appends out.old at (graph_lines 1 (steps_at path.now entry body count) last.now) result out.new }
 {
     let mut q = at;
     let mut i = 1;

@@ -1,8 +1,8 @@
 // The two texts: of a path, and of two graphs with no path between them.
-ghost use Rattle.model.specs.Describe.{describePath};
+ghost use Rattle.model.specs.Describe.{describe_path};
 ghost use Rattle.text.specs.Appending.{Appends};
-ghost use Rattle.path_bytes.specs.Reading.{stepsAt, StepsIn};
-ghost use Rattle.describe.specs.Lines.{noPathText, OwnNameIn};
+ghost use Rattle.path_bytes.specs.Reading.{steps_at, StepsIn};
+ghost use Rattle.describe.specs.Lines.{no_path_text, OwnNameIn};
 
 use crate::lines::{append_description, append_own_graph};
 use crate::steps::{append_graphs, append_relationships};
@@ -20,7 +20,7 @@ pub(crate) fn append_path(
     to: &[u8],
 ) -> usize
     requires { StepsIn path.now entry body count }
-    ensures { Appends out.old 0 (describePath last.now (stepsAt path.now entry body count) from.now to.now) result out.new }
+    ensures { Appends out.old 0 (describe_path last.now (steps_at path.now entry body count) from.now to.now) result out.new }
 {
     let p = append_description(out, 0, 1, from);
     let q = append_relationships(out, p, path, entry, count);
@@ -32,7 +32,7 @@ pub(crate) fn append_path(
 // Appends the text of two graphs with no path.
 pub(crate) fn append_no_path(out: &mut [u8], b: &[u8], c: &[u8], from: &[u8], to: &[u8]) -> usize
     requires { OwnNameIn b.now × OwnNameIn c.now }
-    ensures { Appends out.old 0 (noPathText b.now c.now from.now to.now) result out.new }
+    ensures { Appends out.old 0 (no_path_text b.now c.now from.now to.now) result out.new }
 {
     let p = append_description(out, 0, 1, from);
     let q = append_description(out, p, 2, to);

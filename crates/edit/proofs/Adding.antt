@@ -6,15 +6,15 @@ use lib.ListN.{length}
 use lib.Dec.{ltb}
 use borrow.Author.Tests.{lt-ltb}
 use Rattle.model.specs.declared.Kind.{Kind}
-use Rattle.model.specs.Bytes.{Bytes, compareBytes, isEmpty}
-use Rattle.model.specs.Record.{GraphName, insert, withPair, names, anyLong, judge, maxNameBytes}
+use Rattle.model.specs.Bytes.{Bytes, compare_bytes, is_empty}
+use Rattle.model.specs.Record.{GraphName, insert, with_pair, names, any_long, judge, max_name_bytes}
 use Rattle.model.specs.Layout.{shown, decode}
-use Rattle.model.specs.Opening.{isSome, faultOf}
-use Rattle.model.specs.Outcome.{Outcome, keptOr, addPair}
+use Rattle.model.specs.Opening.{is_some, fault_of}
+use Rattle.model.specs.Outcome.{Outcome, kept_or, add_pair}
 use Rattle.tables.specs.Judging.{outcome}
-use Rattle.sorted.proofs.Pairs.{names-withPair}
-use Rattle.tables.proofs.Judge.{any-insert}
-use Rattle.edit.proofs.Openings.{opened-refused, opened-done, empty-true, empty-false}
+use Rattle.sorted.proofs.Pairs.{names_with_pair}
+use Rattle.tables.proofs.Judge.{any_insert}
+use Rattle.edit.proofs.Openings.{opened_refused, opened_done, empty_true, empty_false}
 
 either_second : (s : Bool) → s || true ≡ true
 either_second true = refl
@@ -22,49 +22,49 @@ either_second false = refl
 
 -- a long name refuses an addition
 module _ (kind : Kind) (b from to : Bytes) (g : GraphName) where
-  judge-long : ltb maxNameBytes (length to) || (ltb maxNameBytes (length from) || anyLong (names g)) ≡ true → judge (withPair kind (record { from = from; to = to }) g) ≡ 11
+  judge_long : ltb max_name_bytes (length to) || (ltb max_name_bytes (length from) || any_long (names g)) ≡ true → judge (with_pair kind (record { from = from; to = to }) g) ≡ 11
   unfolding judge
-  judge-long e =
+  judge_long e =
       rw (
-        names-withPair kind (record { from = from; to = to }) g,
-        any-insert to (insert compareBytes from (names g)),
-        any-insert from (names g),
+        names_with_pair kind (record { from = from; to = to }) g,
+        any_insert to (insert compare_bytes from (names g)),
+        any_insert from (names g),
         e,
       )
 
-  kept-long : ltb maxNameBytes (length to) || (ltb maxNameBytes (length from) || anyLong (names g)) ≡ true
-      → keptOr b (withPair kind (record { from = from; to = to }) g) ≡ outcome 11 b
-  kept-long e = rw (judge-long e)
+  kept_long : ltb max_name_bytes (length to) || (ltb max_name_bytes (length from) || any_long (names g)) ≡ true
+      → kept_or b (with_pair kind (record { from = from; to = to }) g) ≡ outcome 11 b
+  kept_long e = rw (judge_long e)
 
 module _ (kind : Kind) (from to b : Bytes) where
   abbrev change : GraphName → Outcome
-  change g = cond (isEmpty from || isEmpty to) (outcome 0 b) (keptOr b (withPair kind (record { from = from; to = to }) g))
+  change g = cond (is_empty from || is_empty to) (outcome 0 b) (kept_or b (with_pair kind (record { from = from; to = to }) g))
 
-  pub add-refused : (faultOf b ≡ 0 → ⊥) → addPair kind from to b ≡ outcome (faultOf b) b
-  add-refused n = opened-refused b change n
+  pub add_refused : (fault_of b ≡ 0 → ⊥) → add_pair kind from to b ≡ outcome (fault_of b) b
+  add_refused n = opened_refused b change n
 
-  module _ (ok : faultOf b ≡ 0) where
-    pub add-decodes : isSome (decode b) ≡ true
-    add-decodes = (opened-done b change ok).0
+  module _ (ok : fault_of b ≡ 0) where
+    pub add_decodes : is_some (decode b) ≡ true
+    add_decodes = (opened_done b change ok).0
 
-    add-opened : addPair kind from to b ≡ change (shown b)
-    add-opened = (opened-done b change ok).1
+    add_opened : add_pair kind from to b ≡ change (shown b)
+    add_opened = (opened_done b change ok).1
 
-    pub add-no-from : length from ≡ 0 → addPair kind from to b ≡ outcome 0 b
-    add-no-from e = add-opened ∙ rw (empty-true from e)
+    pub add_no_from : length from ≡ 0 → add_pair kind from to b ≡ outcome 0 b
+    add_no_from e = add_opened ∙ rw (empty_true from e)
 
-    pub add-no-to : length to ≡ 0 → addPair kind from to b ≡ outcome 0 b
-    add-no-to e = add-opened ∙ rw (empty-true to e, either_second (isEmpty from))
+    pub add_no_to : length to ≡ 0 → add_pair kind from to b ≡ outcome 0 b
+    add_no_to e = add_opened ∙ rw (empty_true to e, either_second (is_empty from))
 
     module _ (f : length from ≡ 0 → ⊥) (t : length to ≡ 0 → ⊥) where
-      pub add_kept : addPair kind from to b ≡ keptOr b (withPair kind (record { from = from; to = to }) (shown b))
-      add_kept = add-opened ∙ rw (empty-false from f, empty-false to t)
+      pub add_kept : add_pair kind from to b ≡ kept_or b (with_pair kind (record { from = from; to = to }) (shown b))
+      add_kept = add_opened ∙ rw (empty_false from f, empty_false to t)
 
-      pub add-long-from : maxNameBytes < length from → addPair kind from to b ≡ outcome 11 b
-      add-long-from h = add_kept ∙ kept-long kind b from to (shown b) (rw (lt-ltb maxNameBytes (length from) h) (either_second (ltb maxNameBytes (length to))))
+      pub add_long_from : max_name_bytes < length from → add_pair kind from to b ≡ outcome 11 b
+      add_long_from h = add_kept ∙ kept_long kind b from to (shown b) (rw (lt-ltb max_name_bytes (length from) h) (either_second (ltb max_name_bytes (length to))))
 
-      pub add-long-to : maxNameBytes < length to → addPair kind from to b ≡ outcome 11 b
-      add-long-to h = add_kept ∙ kept-long kind b from to (shown b) (rw (lt-ltb maxNameBytes (length to) h))
+      pub add_long_to : max_name_bytes < length to → add_pair kind from to b ≡ outcome 11 b
+      add_long_to h = add_kept ∙ kept_long kind b from to (shown b) (rw (lt-ltb max_name_bytes (length to) h))
 
 -- the ways through `add`, in the order of its tests
-pub ruleset additions = (add-refused, add-no-from, add-no-to, add-long-from, add-long-to, add_kept)
+pub ruleset additions = (add_refused, add_no_from, add_no_to, add_long_from, add_long_to, add_kept)

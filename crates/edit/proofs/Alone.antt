@@ -9,72 +9,72 @@ use lib.ListN.{length, length-append, replicate}
 use lib.Seq.{take_all}
 use borrow.Author.Tests.{lt-ltb, le-ltb}
 use Rattle.model.specs.Bytes.{Bytes, put}
-use Rattle.model.specs.Record.{insert, insertAll, empty, withName, names, judge, bodies, maxNameBytes, maxBodiesBytes}
-use Rattle.model.specs.Layout.{recordLength, encode}
-use Rattle.model.specs.Outcome.{Outcome, freshOr, newRecord}
+use Rattle.model.specs.Record.{insert, insert_all, empty, with_name, names, judge, bodies, max_name_bytes, max_bodies_bytes}
+use Rattle.model.specs.Layout.{record_length, encode}
+use Rattle.model.specs.Outcome.{Outcome, fresh_or, new_record}
 use Rattle.model.specs.Statements.{Ascending}
-use Rattle.record.proofs.Opening.{written-opened, written-refused}
+use Rattle.record.proofs.Opening.{written_opened, written_refused}
 use Rattle.record.specs.Test.{Under}
 use Rattle.record.specs.Coded.{meaning}
-use Rattle.sorted.specs.Tables.{Tables, tables, bodyIn, readOut, Kept}
+use Rattle.sorted.specs.Tables.{Tables, tables, body_in, read_out, Kept}
 use Rattle.tables.specs.Judging.{Storable}
 use Rattle.tables.proofs.Writing.{cleared}
 
 module _ (name : Bytes) where
-  alone : names (withName name empty) ≡ name ∷ []
-  unfolding names insertAll insert
+  alone : names (with_name name empty) ≡ name ∷ []
+  unfolding names insert_all insert
   alone = refl
 
-  pub fresh-long : maxNameBytes < length name → freshOr (withName name empty) ≡ record { number = 11; buffer = replicate recordLength 0 }
+  pub fresh_long : max_name_bytes < length name → fresh_or (with_name name empty) ≡ record { number = 11; buffer = replicate record_length 0 }
   unfolding judge
-  fresh-long h = rw (alone, lt-ltb maxNameBytes (length name) h)
+  fresh_long h = rw (alone, lt-ltb max_name_bytes (length name) h)
 
-  pub fresh-short : length name ≤ maxNameBytes → freshOr (withName name empty) ≡ record { number = 0; buffer = encode (withName name empty) }
+  pub fresh_short : length name ≤ max_name_bytes → fresh_or (with_name name empty) ≡ record { number = 0; buffer = encode (with_name name empty) }
   unfolding judge
-  fresh-short h =
+  fresh_short h =
       let l = length-append name [] in
-      rw (alone, le-ltb maxNameBytes (length name) h, le-ltb maxBodiesBytes (length (bodies (name ∷ []))) (omega arith))
+      rw (alone, le-ltb max_name_bytes (length name) h, le-ltb max_bodies_bytes (length (bodies (name ∷ []))) (omega arith))
 
   module _ (b : Bytes) where
-    pub new-wrong : (length b ≡ recordLength → ⊥) → newRecord name b ≡ record { number = 15; buffer = b }
-    unfolding newRecord
-    new-wrong n = rw (written-refused b n)
+    pub new_wrong : (length b ≡ record_length → ⊥) → new_record name b ≡ record { number = 15; buffer = b }
+    unfolding new_record
+    new_wrong n = rw (written_refused b n)
 
-    pub new-long : length b ≡ recordLength → maxNameBytes < length name → newRecord name b ≡ record { number = 11; buffer = replicate recordLength 0 }
-    unfolding newRecord
-    new-long e h = rw (written-opened b e) (fresh-long h)
+    pub new_long : length b ≡ record_length → max_name_bytes < length name → new_record name b ≡ record { number = 11; buffer = replicate record_length 0 }
+    unfolding new_record
+    new_long e h = rw (written_opened b e) (fresh_long h)
 
     -- which is what clearing leaves
-    pub new_cleared : length b ≡ recordLength → maxNameBytes < length name → (newRecord name b).buffer ≡ put b 0 (replicate (length b - 0) 0)
-    new_cleared e h = ap (λ (o : Outcome). o.buffer) (new-long e h) ∙ sym (cleared b recordLength e)
+    pub new_cleared : length b ≡ record_length → max_name_bytes < length name → (new_record name b).buffer ≡ put b 0 (replicate (length b - 0) 0)
+    new_cleared e h = ap (λ (o : Outcome). o.buffer) (new_long e h) ∙ sym (cleared b record_length e)
 
-    pub new-short : length b ≡ recordLength → length name ≤ maxNameBytes → newRecord name b ≡ record { number = 0; buffer = encode (withName name empty) }
-    unfolding newRecord
-    new-short e h = rw (written-opened b e) (fresh-short h)
+    pub new_short : length b ≡ record_length → length name ≤ max_name_bytes → new_record name b ≡ record { number = 0; buffer = encode (with_name name empty) }
+    unfolding new_record
+    new_short e h = rw (written_opened b e) (fresh_short h)
 
 -- tables of a short name alone, whose pool is the name
-module _ (name : Bytes) (short : length name ≤ maxNameBytes) where
-  abbrev pub alone-tables : Tables
-  alone-tables = tables (length name ∷ []) [] [] name (record { names = 1; bytes = length name; subgraph = 0; translation = 0 })
+module _ (name : Bytes) (short : length name ≤ max_name_bytes) where
+  abbrev pub alone_tables : Tables
+  alone_tables = tables (length name ∷ []) [] [] name (record { names = 1; bytes = length name; subgraph = 0; translation = 0 })
 
-  body-alone : bodyIn name (length name) ≡ name
-  body-alone =
+  body_alone : body_in name (length name) ≡ name
+  body_alone =
       let q : length name / 65536 ≡ 0 = omega arith in
       let m : length name % 65536 ≡ length name = omega arith in
       rw (q, m) (take_all (length name) name (omega arith))
 
-  pub meaning-alone : meaning (readOut alone-tables 1) ≡ withName name empty
-  meaning-alone = ap (λ (n : Bytes). withName n empty) body-alone
+  pub meaning_alone : meaning (read_out alone_tables 1) ≡ with_name name empty
+  meaning_alone = ap (λ (n : Bytes). with_name n empty) body_alone
 
-  pub alone-storable : Storable alone-tables 1
+  pub alone_storable : Storable alone_tables 1
   unfolding Ascending Under
-  alone-storable =
+  alone_storable =
       let l = length-append name [] in
-      let kept : Kept alone-tables = record {
+      let kept : Kept alone_tables = record {
         order = tt;
-        short = rw (body-alone, le-ltb maxNameBytes (length name) short);
+        short = rw (body_alone, le-ltb max_name_bytes (length name) short);
         within = λ r m. ⊎_elim (λ (e : r ≡ length name). rw e (omega arith)) (λ (k : Memᴰ r []). absurd (Memᴰ.not-nil k)) (Memᴰ.cases_cons m);
-        total = rw body-alone (omega arith);
+        total = rw body_alone (omega arith);
         count = omega arith;
         room = omega arith;
         few = omega arith;
@@ -83,9 +83,9 @@ module _ (name : Bytes) (short : length name ≤ maxNameBytes) where
         translation = record { order = tt; under = tt; within = omega arith };
       } in
       record {
-        complete = record { kept = kept; own-within = omega arith; used = ap names meaning-alone ∙ alone name ∙ ap (λ (n : Bytes). n ∷ []) (sym body-alone) };
+        complete = record { kept = kept; own_within = omega arith; used = ap names meaning_alone ∙ alone name ∙ ap (λ (n : Bytes). n ∷ []) (sym body_alone) };
         sizes = record { names = omega arith; bytes = omega arith; subgraph = omega arith; translation = omega arith };
       }
 
 -- the ways through `new`
-pub ruleset news = (new-wrong, new-long, new_cleared, new-short)
+pub ruleset news = (new_wrong, new_long, new_cleared, new_short)

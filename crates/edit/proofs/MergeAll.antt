@@ -8,67 +8,67 @@ use native.Mathlib.Omega.{arith}
 use lib.ListN.{length}
 use Rattle.model.specs.declared.Kind.TheVariants.{Subgraph, Translation}
 use Rattle.model.specs.Bytes.{Bytes}
-use Rattle.model.specs.Record.{Pair, GraphName, comparePairs, insertAll, names, bodies}
-use Rattle.text.proofs.Order.{bytes-order}
-use Rattle.text.proofs.Ascending.{insertAll-members}
-use Rattle.sorted.specs.Tables.{Tables, tableNames, graphIn, Kept}
-use Rattle.tables.specs.Merging.{withPairs, allOf, MergeRoom, PairsPut}
+use Rattle.model.specs.Record.{Pair, GraphName, compare_pairs, insert_all, names, bodies}
+use Rattle.text.proofs.Order.{bytes_order}
+use Rattle.text.proofs.Ascending.{insert_all_members}
+use Rattle.sorted.specs.Tables.{Tables, table_names, graph_in, Kept}
+use Rattle.tables.specs.Merging.{with_pairs, all_of, MergeRoom, PairsPut}
 use Rattle.edit.specs.Merging.{PairsMerged}
-use Rattle.sorted.proofs.Search.{length-names}
-use Rattle.tables.proofs.Merge.{fewer, shorter, all-ascending, all-count, all-bytes}
+use Rattle.sorted.proofs.Search.{length_names}
+use Rattle.tables.proofs.Merge.{fewer, shorter, all_ascending, all_count, all_bytes}
 
-with-subgraphs : (ps : List Pair) (g : GraphName)
-    → withPairs Subgraph ps g ≡ record { name = g.name; subgraph = insertAll comparePairs ps g.subgraph; translation = g.translation }
-unfolding insertAll
-with-subgraphs [] g = refl
-with-subgraphs (p ∷ ps) g = with-subgraphs ps _
+with_subgraphs : (ps : List Pair) (g : GraphName)
+    → with_pairs Subgraph ps g ≡ record { name = g.name; subgraph = insert_all compare_pairs ps g.subgraph; translation = g.translation }
+unfolding insert_all
+with_subgraphs [] g = refl
+with_subgraphs (p ∷ ps) g = with_subgraphs ps _
 
-with-translations : (ps : List Pair) (g : GraphName)
-    → withPairs Translation ps g ≡ record { name = g.name; subgraph = g.subgraph; translation = insertAll comparePairs ps g.translation }
-unfolding insertAll
-with-translations [] g = refl
-with-translations (p ∷ ps) g = with-translations ps _
+with_translations : (ps : List Pair) (g : GraphName)
+    → with_pairs Translation ps g ≡ record { name = g.name; subgraph = g.subgraph; translation = insert_all compare_pairs ps g.translation }
+unfolding insert_all
+with_translations [] g = refl
+with_translations (p ∷ ps) g = with_translations ps _
 
 module _ (t : Tables) (h : GraphName) (start : Kept t) (room : MergeRoom t h (length h.subgraph) (length h.translation)) where
   module _ (u : Tables) (first : PairsPut Subgraph t h u) where
     -- no names come in that are of neither
-    all-inside : (x : Bytes) → Memᴰ x (allOf u h) → Memᴰ x (allOf t h)
-    all-inside x m =
+    all_inside : (x : Bytes) → Memᴰ x (all_of u h) → Memᴰ x (all_of t h)
+    all_inside x m =
         ⊎_elim
-        (λ (n : Memᴰ x (names h)). (insertAll-members bytes-order (names h) (tableNames t) x).1 (inl n))
+        (λ (n : Memᴰ x (names h)). (insert_all_members bytes_order (names h) (table_names t) x).1 (inl n))
         (first.within x)
-        ((insertAll-members bytes-order (names h) (tableNames u) x).0 m)
+        ((insert_all_members bytes_order (names h) (table_names u) x).0 m)
 
-    all-fewer : length (allOf u h) ≤ length (allOf t h)
-    all-fewer = fewer (allOf u h) (allOf t h) (all-ascending u h first.kept) all-inside
+    all_fewer : length (all_of u h) ≤ length (all_of t h)
+    all_fewer = fewer (all_of u h) (all_of t h) (all_ascending u h first.kept) all_inside
 
-    all-shorter : length (bodies (allOf u h)) ≤ length (bodies (allOf t h))
-    all-shorter = shorter (allOf u h) (allOf t h) (all-ascending u h first.kept) all-inside
+    all_shorter : length (bodies (all_of u h)) ≤ length (bodies (all_of t h))
+    all_shorter = shorter (all_of u h) (all_of t h) (all_ascending u h first.kept) all_inside
 
-    pub second-merge : length u.refs ≡ length t.refs → length u.subs ≡ length t.subs → length u.trans ≡ length t.trans
+    pub second_merge : length u.refs ≡ length t.refs → length u.subs ≡ length t.subs → length u.trans ≡ length t.trans
         → length u.pool ≡ length t.pool → MergeRoom u h 0 (length h.translation)
-    second-merge a b c d = record {
-      count = omega (arith, all-fewer, room.count);
-      room = omega (arith, all-shorter, room.room);
+    second_merge a b c d = record {
+      count = omega (arith, all_fewer, room.count);
+      room = omega (arith, all_shorter, room.room);
       subgraph = omega (arith, first.subgraph, room.subgraph);
       translation = omega (arith, first.translation, room.translation);
     }
 
     pub merged : (merging : Bool) → merging ≡ true → (w : Tables) → PairsPut Translation u h w → PairsMerged merging t h w
     merged merging e w second =
-        let n = length-names w.pool w.sizes.names w.refs second.kept.count in
-        let few = fewer (tableNames w) (allOf u h) second.kept.order second.within in
-        let short = shorter (tableNames w) (allOf u h) second.kept.order second.within in
+        let n = length_names w.pool w.sizes.names w.refs second.kept.count in
+        let few = fewer (table_names w) (all_of u h) second.kept.order second.within in
+        let short = shorter (table_names w) (all_of u h) second.kept.order second.within in
         rw e
         (record {
           kept = second.kept;
           good = λ own g. second.good own (first.good own g);
           graph =
               second.graph
-              ∙ ap (withPairs Translation h.translation) (first.graph ∙ with-subgraphs h.subgraph (graphIn t))
-              ∙ with-translations h.translation _;
-          count = omega (arith, few, all-fewer, n, all-count t h start);
-          bytes = omega (arith, short, all-shorter, second.kept.total, all-bytes t h start);
+              ∙ ap (with_pairs Translation h.translation) (first.graph ∙ with_subgraphs h.subgraph (graph_in t))
+              ∙ with_translations h.translation _;
+          count = omega (arith, few, all_fewer, n, all_count t h start);
+          bytes = omega (arith, short, all_shorter, second.kept.total, all_bytes t h start);
           subgraph = omega (arith, first.subgraph, second.subgraph);
           translation = omega (arith, first.translation, second.translation);
         })

@@ -6,37 +6,37 @@ use mathlib.Core.Bool.{true, false}
 use mathlib.Core.List.{[], ◌∷◌}
 use native.Mathlib.Omega.{arith}
 use lib.ListN.{length}
-use Rattle.model.specs.Bytes.{Bytes, isEmpty}
+use Rattle.model.specs.Bytes.{Bytes, is_empty}
 use Rattle.model.specs.Record.{GraphName}
 use Rattle.model.specs.Layout.{shown, decode}
-use Rattle.model.specs.Opening.{isSome, opened, recordIn, faultOf, faultOfBoth}
-use Rattle.model.specs.Outcome.{Outcome, orLeft, changeFrom}
+use Rattle.model.specs.Opening.{is_some, opened, record_in, fault_of, fault_of_both}
+use Rattle.model.specs.Outcome.{Outcome, or_left, change_from}
 use Rattle.tables.specs.Judging.{outcome}
-use Rattle.record.proofs.Opening.{IsRecord, record-refused, record-opened, two-refused, two-opened}
+use Rattle.record.proofs.Opening.{IsRecord, record_refused, record_opened, two_refused, two_opened}
 
-is_some : (b : Bytes) → IsRecord b → isSome (decode b) ≡ true
-is_some b r = rw r.decoded
+is_some_lem : (b : Bytes) → IsRecord b → is_some (decode b) ≡ true
+is_some_lem b r = rw r.decoded
 
 module _ (b : Bytes) (f : GraphName → Outcome) where
-  pub opened-refused : faultOf b ≢ 0 → orLeft b (opened (recordIn b)) f ≡ outcome (faultOf b) b
-  opened-refused n = rw (record-refused b n)
+  pub opened_refused : fault_of b ≢ 0 → or_left b (opened (record_in b)) f ≡ outcome (fault_of b) b
+  opened_refused n = rw (record_refused b n)
 
-  pub opened-done : faultOf b ≡ 0 → (isSome (decode b) ≡ true) × (orLeft b (opened (recordIn b)) f ≡ f (shown b))
-  opened-done z = let r = record-opened b z in (is_some b r.0, rw r.1)
+  pub opened_done : fault_of b ≡ 0 → (is_some (decode b) ≡ true) × (or_left b (opened (record_in b)) f ≡ f (shown b))
+  opened_done z = let r = record_opened b z in (is_some_lem b r.0, rw r.1)
 
 module _ (b c : Bytes) (f : GraphName → GraphName → Outcome) where
-  pub both-refused : faultOfBoth b c ≢ 0 → changeFrom b c f ≡ outcome (faultOfBoth b c) b
-  both-refused n = rw (two-refused b c n)
+  pub both_refused : fault_of_both b c ≢ 0 → change_from b c f ≡ outcome (fault_of_both b c) b
+  both_refused n = rw (two_refused b c n)
 
-  pub both-done : faultOfBoth b c ≡ 0 → (isSome (decode b) ≡ true) × (isSome (decode c) ≡ true) × (changeFrom b c f ≡ f (shown b) (shown c))
-  both-done z = let r = two-opened b c z in (is_some b r.0, is_some c r.1, rw r.2)
+  pub both_done : fault_of_both b c ≡ 0 → (is_some (decode b) ≡ true) × (is_some (decode c) ≡ true) × (change_from b c f ≡ f (shown b) (shown c))
+  both_done z = let r = two_opened b c z in (is_some_lem b r.0, is_some_lem c r.1, rw r.2)
 
 -- ------------------------------------------------------------------ empty names
 
-pub empty-true : (n : Bytes) → length n ≡ 0 → isEmpty n ≡ true
-empty-true [] h = refl
-empty-true (x ∷ xs) h = absurd (omega arith)
+pub empty_true : (n : Bytes) → length n ≡ 0 → is_empty n ≡ true
+empty_true [] h = refl
+empty_true (x ∷ xs) h = absurd (omega arith)
 
-pub empty-false : (n : Bytes) → (length n ≡ 0 → ⊥) → isEmpty n ≡ false
-empty-false [] h = absurd (h refl)
-empty-false (x ∷ xs) h = refl
+pub empty_false : (n : Bytes) → (length n ≡ 0 → ⊥) → is_empty n ≡ false
+empty_false [] h = absurd (h refl)
+empty_false (x ∷ xs) h = refl

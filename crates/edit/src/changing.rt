@@ -2,12 +2,12 @@
 // both records are.
 ghost use Rattle.std.specs.Prelude.{◌≡◌, true};
 ghost use Rattle.model.specs.Layout.{shown, decode};
-ghost use Rattle.model.specs.Opening.{isSome};
+ghost use Rattle.model.specs.Opening.{is_some};
 ghost use Rattle.sorted.specs.Tables.{tables, Kept, PairRoom};
-ghost use Rattle.tables.specs.Loading.{sizesOf};
-ghost use Rattle.edit.specs.Merging.{sizesIf};
+ghost use Rattle.tables.specs.Loading.{sizes_of};
+ghost use Rattle.edit.specs.Merging.{sizes_if};
 ghost use Rattle.tables.specs.Judging.{outcome, Limited};
-ghost use Rattle.edit.specs.Changing.{changeOf, Changeable, ChangeRoom, FitSmall, PairedIf};
+ghost use Rattle.edit.specs.Changing.{change_of, Changeable, ChangeRoom, FitSmall, PairedIf};
 
 use crate::arrays::{name_table, pair_table, pool, small_name_table, small_pair_table, small_pool};
 use crate::merging::merge;
@@ -50,8 +50,8 @@ fn change_in(
     from: &[u8],
     to: &[u8],
 ) -> u32
-    requires { Changeable buffer.old merging other.now from.now to.now × ChangeRoom (sizesOf (shown buffer.old)) (sizesIf merging (shown other.now)) refs.old subs.old trans.old pool.old }
-    ensures { outcome result buffer.new ≡ changeOf buffer.old merging other.now pairing kind from.now to.now }
+    requires { Changeable buffer.old merging other.now from.now to.now × ChangeRoom (sizes_of (shown buffer.old)) (sizes_if merging (shown other.now)) refs.old subs.old trans.old pool.old }
+    ensures { outcome result buffer.new ≡ change_of buffer.old merging other.now pairing kind from.now to.now }
 {
     let sizes = load(refs, subs, trans, pool, buffer);
     let all = merge(merging, refs, subs, trans, pool, sizes, other);
@@ -69,8 +69,8 @@ fn change_small(
     from: &[u8],
     to: &[u8],
 ) -> u32
-    requires { Changeable buffer.old merging other.now from.now to.now × FitSmall (sizesOf (shown buffer.old)) (sizesIf merging (shown other.now)) }
-    ensures { outcome result buffer.new ≡ changeOf buffer.old merging other.now pairing kind from.now to.now }
+    requires { Changeable buffer.old merging other.now from.now to.now × FitSmall (sizes_of (shown buffer.old)) (sizes_if merging (shown other.now)) }
+    ensures { outcome result buffer.new ≡ change_of buffer.old merging other.now pairing kind from.now to.now }
 {
     let mut names = small_name_table();
     let mut subgraph = small_pair_table();
@@ -102,7 +102,7 @@ fn change_large(
     to: &[u8],
 ) -> u32
     requires { Changeable buffer.old merging other.now from.now to.now }
-    ensures { outcome result buffer.new ≡ changeOf buffer.old merging other.now pairing kind from.now to.now }
+    ensures { outcome result buffer.new ≡ change_of buffer.old merging other.now pairing kind from.now to.now }
 {
     let mut names = name_table();
     let mut subgraph = pair_table();
@@ -125,8 +125,8 @@ fn change_large(
 
 // How much of the tables another record takes, if it is merged.
 fn sizes_if(merging: bool, other: &[u8]) -> Sizes
-    requires { merging ≡ true → isSome (decode other.now) ≡ true }
-    ensures { result ≡ sizesIf merging (shown other.now) }
+    requires { merging ≡ true → is_some (decode other.now) ≡ true }
+    ensures { result ≡ sizes_if merging (shown other.now) }
 {
     if merging {
         return sizes_of(other);
@@ -168,7 +168,7 @@ pub(crate) fn change(
     to: &[u8],
 ) -> u32
     requires { Changeable buffer.old merging other.now from.now to.now }
-    ensures { outcome result buffer.new ≡ changeOf buffer.old merging other.now pairing kind from.now to.now }
+    ensures { outcome result buffer.new ≡ change_of buffer.old merging other.now pairing kind from.now to.now }
 {
     let own = sizes_of(buffer);
     let more = sizes_if(merging, other);

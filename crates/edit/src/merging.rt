@@ -1,7 +1,7 @@
 // The pairs of another record put into the tables, if it is merged.
 ghost use Rattle.std.specs.Prelude.{◌≡◌, true, length};
 ghost use Rattle.model.specs.Layout.{shown, decode};
-ghost use Rattle.model.specs.Opening.{isSome};
+ghost use Rattle.model.specs.Opening.{is_some};
 ghost use Rattle.sorted.specs.Tables.{tables, Kept};
 ghost use Rattle.tables.specs.Merging.{MergeRoom};
 ghost use Rattle.edit.specs.Merging.{PairsMerged};
@@ -20,7 +20,7 @@ pub(crate) fn merge(
     sizes: Sizes,
     other: &[u8],
 ) -> Sizes
-    requires { Kept (tables refs.old subs.old trans.old pool.old sizes) × (merging ≡ true → (isSome (decode other.now) ≡ true) × MergeRoom (tables refs.old subs.old trans.old pool.old sizes) (shown other.now) (length (shown other.now).subgraph) (length (shown other.now).translation)) }
+    requires { Kept (tables refs.old subs.old trans.old pool.old sizes) × (merging ≡ true → (is_some (decode other.now) ≡ true) × MergeRoom (tables refs.old subs.old trans.old pool.old sizes) (shown other.now) (length (shown other.now).subgraph) (length (shown other.now).translation)) }
     ensures { PairsMerged merging (tables refs.old subs.old trans.old pool.old sizes) (shown other.now) (tables refs.new subs.new trans.new pool.new result) }
 {
     if !merging {

@@ -10,85 +10,85 @@ use Rattle.model.specs.declared.Kind.TheVariants.{Subgraph, Translation}
 use Rattle.model.specs.Bytes.{Bytes}
 use Rattle.model.specs.Numbers.{number}
 use Rattle.model.specs.Record.{Pair, GraphName}
-use Rattle.model.specs.Layout.{nameAt, pairsFrom, shown, pairCount, tableAt}
-use Rattle.model.specs.Questions.{pairsOf}
-use Rattle.model.specs.Writing.{nameLine, pairLines, moreRelations, relationsTag}
-use Rattle.export.specs.Texts.{nameText, pairText, pairTexts, pairsText, headerLines, valueText}
+use Rattle.model.specs.Layout.{name_at, pairs_from, shown, pair_count, table_at}
+use Rattle.model.specs.Questions.{pairs_of}
+use Rattle.model.specs.Writing.{name_line, pair_lines, more_relations, relations_tag}
+use Rattle.export.specs.Texts.{name_text, pair_text, pair_texts, pairs_text, header_lines, value_text}
 
 -- ------------------------------------------------------------------ lines and relations
 
-name-text : (before : Bytes) (o : Option Bytes) → nameLine before o ≡ nameText before (10 ∷ []) o
-name-text before none = refl
-name-text before (some n) = refl
+name_text_lem : (before : Bytes) (o : Option Bytes) → name_line before o ≡ name_text before (10 ∷ []) o
+name_text_lem before none = refl
+name_text_lem before (some n) = refl
 
-pub name-value : (o : Option Bytes) → nameText [] [] o ≡ valueText o
-name-value none = refl
-name-value (some n) = append-nil n
+pub name_value : (o : Option Bytes) → name_text [] [] o ≡ value_text o
+name_value none = refl
+name_value (some n) = append-nil n
 
-lines-run : (before : Bytes) (between : ℕ) (ps : List Pair) → pairLines before between ps ≡ pairTexts before between (10 ∷ []) ps
-unfolding pairLines pairTexts
-lines-run before between [] = refl
-lines-run before between (p ∷ ps) = rw (lines-run before between ps) (simp append_assoc)
+lines_run : (before : Bytes) (between : ℕ) (ps : List Pair) → pair_lines before between ps ≡ pair_texts before between (10 ∷ []) ps
+unfolding pair_lines pair_texts
+lines_run before between [] = refl
+lines_run before between (p ∷ ps) = rw (lines_run before between ps) (simp append_assoc)
 
-lines-pairs : (before : Bytes) (between : ℕ) (ps : List Pair) → pairLines before between ps ≡ pairsText before before between (10 ∷ []) ps
-unfolding pairTexts
-lines-pairs before between [] = lines-run before between []
-lines-pairs before between (p ∷ ps) = lines-run before between (p ∷ ps)
+lines_pairs : (before : Bytes) (between : ℕ) (ps : List Pair) → pair_lines before between ps ≡ pairs_text before before between (10 ∷ []) ps
+unfolding pair_texts
+lines_pairs before between [] = lines_run before between []
+lines_pairs before between (p ∷ ps) = lines_run before between (p ∷ ps)
 
-pub header-parts : (name subgraph translation : Bytes) (between : ℕ) (g : GraphName) → headerLines name subgraph translation between g
-    ≡ nameText name (10 ∷ []) g.name
-    ++ pairsText subgraph subgraph between (10 ∷ []) g.subgraph
-    ++ pairsText translation translation between (10 ∷ []) g.translation
-header-parts name subgraph translation between g =
-    rw (name-text name g.name, lines-pairs subgraph between g.subgraph, lines-pairs translation between g.translation)
+pub header_parts : (name subgraph translation : Bytes) (between : ℕ) (g : GraphName) → header_lines name subgraph translation between g
+    ≡ name_text name (10 ∷ []) g.name
+    ++ pairs_text subgraph subgraph between (10 ∷ []) g.subgraph
+    ++ pairs_text translation translation between (10 ∷ []) g.translation
+header_parts name subgraph translation between g =
+    rw (name_text_lem name g.name, lines_pairs subgraph between g.subgraph, lines_pairs translation between g.translation)
 
 -- a comma and a name, as they are appended
-comma-name : (s to : Bytes) → s ++ (44 ∷ to) ≡ s ++ (44 ∷ []) ++ to ++ []
-comma-name s to = sym (append-nil _ ∙ append_assoc s (44 ∷ []) to)
+comma_name : (s to : Bytes) → s ++ (44 ∷ to) ≡ s ++ (44 ∷ []) ++ to ++ []
+comma_name s to = sym (append-nil _ ∙ append_assoc s (44 ∷ []) to)
 
-relations-run : (ps : List Pair) → moreRelations ps ≡ pairTexts (59 ∷ []) 44 [] ps
-unfolding moreRelations pairTexts
-relations-run [] = refl
-relations-run (p ∷ ps) = rw (relations-run ps) (ap (λ (t : Bytes). t ++ pairTexts (59 ∷ []) 44 [] ps) (comma-name (59 ∷ p.from) p.to))
+relations_run : (ps : List Pair) → more_relations ps ≡ pair_texts (59 ∷ []) 44 [] ps
+unfolding more_relations pair_texts
+relations_run [] = refl
+relations_run (p ∷ ps) = rw (relations_run ps) (ap (λ (t : Bytes). t ++ pair_texts (59 ∷ []) 44 [] ps) (comma_name (59 ∷ p.from) p.to))
 
-pub relations-pairs : (ps : List Pair) → valueText (relationsTag ps) ≡ pairsText [] (59 ∷ []) 44 [] ps
-unfolding relationsTag
-relations-pairs [] = refl
-relations-pairs (p ∷ ps) = rw (relations-run ps) (ap (λ (t : Bytes). t ++ pairTexts (59 ∷ []) 44 [] ps) (comma-name p.from p.to))
+pub relations_pairs : (ps : List Pair) → value_text (relations_tag ps) ≡ pairs_text [] (59 ∷ []) 44 [] ps
+unfolding relations_tag
+relations_pairs [] = refl
+relations_pairs (p ∷ ps) = rw (relations_run ps) (ap (λ (t : Bytes). t ++ pair_texts (59 ∷ []) 44 [] ps) (comma_name p.from p.to))
 
 -- ------------------------------------------------------------------ the pairs of a kind in a buffer
 
-kind-pairs : (b : Bytes) (k : Kind) → pairsOf k (shown b) ≡ pairsFrom b (tableAt k b) (pairCount k b)
+kind_pairs : (b : Bytes) (k : Kind) → pairs_of k (shown b) ≡ pairs_from b (table_at k b) (pair_count k b)
 unfolding shown
-kind-pairs b Subgraph = refl
-kind-pairs b Translation = refl
+kind_pairs b Subgraph = refl
+kind_pairs b Translation = refl
 
-module _ (b : Bytes) (k : Kind) (count : ℕ) (e : count ≡ pairCount k b) where
-  counted : pairsOf k (shown b) ≡ pairsFrom b (tableAt k b) count
-  counted = kind-pairs b k ∙ ap (pairsFrom b (tableAt k b)) (sym e)
+module _ (b : Bytes) (k : Kind) (count : ℕ) (e : count ≡ pair_count k b) where
+  counted : pairs_of k (shown b) ≡ pairs_from b (table_at k b) count
+  counted = kind_pairs b k ∙ ap (pairs_from b (table_at k b)) (sym e)
 
-  pub no_pairs : count ≡ 0 → pairsOf k (shown b) ≡ []
-  unfolding pairsFrom
+  pub no_pairs : count ≡ 0 → pairs_of k (shown b) ≡ []
+  unfolding pairs_from
   no_pairs z = counted ∙ rw z
 
-  pub first-pair : count ≢ 0 → pairsOf k (shown b)
-      ≡ record { from = nameAt b (number b (tableAt k b)); to = nameAt b (number b (tableAt k b + 2)) } ∷ pairsFrom b (tableAt k b + 4) (count - 1)
-  unfolding pairsFrom
-  first-pair n = counted ∙ go count n
+  pub first_pair : count ≢ 0 → pairs_of k (shown b)
+      ≡ record { from = name_at b (number b (table_at k b)); to = name_at b (number b (table_at k b + 2)) } ∷ pairs_from b (table_at k b + 4) (count - 1)
+  unfolding pairs_from
+  first_pair n = counted ∙ go count n
     where
-      go : (i : ℕ) → i ≢ 0 → pairsFrom b (tableAt k b) i
-          ≡ record { from = nameAt b (number b (tableAt k b)); to = nameAt b (number b (tableAt k b + 2)) } ∷ pairsFrom b (tableAt k b + 4) (i - 1)
+      go : (i : ℕ) → i ≢ 0 → pairs_from b (table_at k b) i
+          ≡ record { from = name_at b (number b (table_at k b)); to = name_at b (number b (table_at k b + 2)) } ∷ pairs_from b (table_at k b + 4) (i - 1)
       go zero n = absurd (n refl)
       go (suc i) n = let d : suc i - 1 ≡ i = omega arith in rw d
 
-  pub pairs_first : count ≢ 0 → (first before : Bytes) (between : ℕ) (after : Bytes) (at : ℕ) → at ≡ tableAt k b → pairsText first before between after (pairsOf k (shown b))
-      ≡ pairText first between after (nameAt b (number b at)) (nameAt b (number b (at + 2))) ++ pairTexts before between after (pairsFrom b (at + 4) (count - 1))
-  pairs_first n first before between after at d = rw d (ap (pairsText first before between after) (first-pair n))
+  pub pairs_first : count ≢ 0 → (first before : Bytes) (between : ℕ) (after : Bytes) (at : ℕ) → at ≡ table_at k b → pairs_text first before between after (pairs_of k (shown b))
+      ≡ pair_text first between after (name_at b (number b at)) (name_at b (number b (at + 2))) ++ pair_texts before between after (pairs_from b (at + 4) (count - 1))
+  pairs_first n first before between after at d = rw d (ap (pairs_text first before between after) (first_pair n))
 
-  pub no-relations : count ≡ 0 → relationsTag (pairsOf k (shown b)) ≡ none
-  unfolding relationsTag
-  no-relations z = ap relationsTag (no_pairs z)
+  pub no_relations : count ≡ 0 → relations_tag (pairs_of k (shown b)) ≡ none
+  unfolding relations_tag
+  no_relations z = ap relations_tag (no_pairs z)
 
-  pub some-relations : count ≢ 0 → relationsTag (pairsOf k (shown b)) ≡ some (valueText (relationsTag (pairsOf k (shown b))))
-  unfolding relationsTag
-  some-relations n = rw (first-pair n)
+  pub some_relations : count ≢ 0 → relations_tag (pairs_of k (shown b)) ≡ some (value_text (relations_tag (pairs_of k (shown b))))
+  unfolding relations_tag
+  some_relations n = rw (first_pair n)

@@ -4,7 +4,7 @@ use Rattle.std.proofs.Math.Option.{Option, some, none}
 use Rattle.model.specs.Bytes.{Bytes}
 use Rattle.model.specs.Questions.{mapped}
 use Rattle.model.specs.Opening.{Given, refuses, gives}
-use Rattle.model.specs.Written.{sizeWritten, outputWith, Tags, TagSizes, tagSizes, putValue, outputWithTag}
+use Rattle.model.specs.Written.{size_written, output_with, Tags, TagSizes, tag_sizes, put_value, output_with_tag}
 use Rattle.export.specs.declared.answer.Written.{Written}
 use Rattle.export.specs.declared.answer.Written.TheVariants.{Refused, Wrote}
 use Rattle.export.specs.declared.answer.Tag.{Tag}
@@ -12,33 +12,33 @@ use Rattle.export.specs.declared.answer.Tag.TheVariants.{Absent, Size}
 use Rattle.export.specs.declared.answer.WrittenTags.{WrittenTags}
 use Rattle.export.specs.declared.answer.WrittenTags.TheVariants as tags
 
-abbrev pub sizeGiven : Written → Given ℕ
-sizeGiven (Refused n) = refuses n
-sizeGiven (Wrote n) = gives n
+abbrev pub size_given : Written → Given ℕ
+size_given (Refused n) = refuses n
+size_given (Wrote n) = gives n
 
 -- the answer, and what the output holds
 pub record Answers (given : Given Bytes) (out : Bytes) (r : Written) (after : Bytes) : Type 0 where
-  pub answer : sizeGiven r ≡ sizeWritten given
-  pub output : after ≡ outputWith given out
+  pub answer : size_given r ≡ size_written given
+  pub output : after ≡ output_with given out
 
 -- ------------------------------------------------------------------ tags
 
-abbrev pub tagSize : Tag → Option ℕ
-tagSize Absent = none
-tagSize (Size n) = some n
+abbrev pub tag_size : Tag → Option ℕ
+tag_size Absent = none
+tag_size (Size n) = some n
 
-abbrev pub tagsGiven : WrittenTags → Given TagSizes
-tagsGiven (tags.Refused n) = refuses n
-tagsGiven (tags.Are n s t) = gives (record { name = tagSize n; subgraph = tagSize s; translation = tagSize t })
+abbrev pub tags_given : WrittenTags → Given TagSizes
+tags_given (tags.Refused n) = refuses n
+tags_given (tags.Are n s t) = gives (record { name = tag_size n; subgraph = tag_size s; translation = tag_size t })
 
 -- one value's size, and what its output holds
 pub record TagAnswers (value : Option Bytes) (out : Bytes) (r : Tag) (after : Bytes) : Type 0 where
-  pub answer : tagSize r ≡ mapped length value
-  pub output : after ≡ putValue value out
+  pub answer : tag_size r ≡ mapped length value
+  pub output : after ≡ put_value value out
 
 -- the answer, and what each output holds
 pub record AllAnswers (given : Given Tags) (name subgraph translation : Bytes) (r : WrittenTags) (name' subgraph' translation' : Bytes) : Type 0 where
-  pub answer : tagsGiven r ≡ tagSizes given
-  pub name-output : name' ≡ outputWithTag (λ v. v.name) given name
-  pub subgraph-output : subgraph' ≡ outputWithTag (λ v. v.subgraph) given subgraph
-  pub translation-output : translation' ≡ outputWithTag (λ v. v.translation) given translation
+  pub answer : tags_given r ≡ tag_sizes given
+  pub name_output : name' ≡ output_with_tag (λ v. v.name) given name
+  pub subgraph_output : subgraph' ≡ output_with_tag (λ v. v.subgraph) given subgraph
+  pub translation_output : translation' ≡ output_with_tag (λ v. v.translation) given translation

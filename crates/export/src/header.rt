@@ -1,9 +1,9 @@
 // A record as header lines, in either format.
 ghost use Rattle.std.specs.Prelude.{length};
 ghost use Rattle.model.specs.Layout.{shown};
-ghost use Rattle.model.specs.Written.{gfaWritten, gafWritten};
+ghost use Rattle.model.specs.Written.{gfa_written, gaf_written};
 ghost use Rattle.text.specs.Appending.{Appends};
-ghost use Rattle.export.specs.Texts.{nameText, headerLines, linesWritten};
+ghost use Rattle.export.specs.Texts.{name_text, header_lines, lines_written};
 ghost use Rattle.export.specs.Places.{RecordIn};
 ghost use Rattle.export.specs.Answers.{Answers};
 
@@ -16,7 +16,7 @@ use text::append;
 // Appends the own name, if there is one, with `before` and `after`.
 pub(crate) fn append_name(out: &mut [u8], at: usize, b: &[u8], before: &[u8], after: &[u8]) -> usize
     requires { RecordIn b.now }
-    ensures { Appends out.old at (nameText before.now after.now (shown b.now).name) result out.new }
+    ensures { Appends out.old at (name_text before.now after.now (shown b.now).name) result out.new }
 {
     if !has_name(b) {
         return at;
@@ -37,7 +37,7 @@ fn append_lines(
 ) -> usize
     requires { RecordIn b.now }
     ensures { Appends out.old 0
-        (headerLines name.now subgraph.now translation.now between (shown b.now)) result out.new }
+        (header_lines name.now subgraph.now translation.now between (shown b.now)) result out.new }
 {
     let p = append_name(out, 0, b, name, b"\n");
     let q = append_pairs(
@@ -71,7 +71,7 @@ fn write_lines(
     translation: &[u8],
     between: u8,
 ) -> Written
-    ensures { Answers (linesWritten name.now subgraph.now translation.now between b.now (length out.old)) out.old result out.new }
+    ensures { Answers (lines_written name.now subgraph.now translation.now between b.now (length out.old)) out.old result out.new }
 {
     let number = record::fault(b);
     if number != 0 {
@@ -86,14 +86,14 @@ fn write_lines(
 
 // Writes a record as GFA header lines.
 pub fn to_gfa_header_lines(b: &[u8], out: &mut [u8]) -> Written
-    ensures { Answers (gfaWritten b.now (length out.old)) out.old result out.new }
+    ensures { Answers (gfa_written b.now (length out.old)) out.old result out.new }
 {
     write_lines(b, out, b"H\tNM:Z:", b"H\tSG:Z:", b"H\tTL:Z:", 44)
 }
 
 // Writes a record as GAF header lines.
 pub fn to_gaf_header_lines(b: &[u8], out: &mut [u8]) -> Written
-    ensures { Answers (gafWritten b.now (length out.old)) out.old result out.new }
+    ensures { Answers (gaf_written b.now (length out.old)) out.old result out.new }
 {
     write_lines(b, out, b"@RN\t", b"@SG\t", b"@TL\t", 9)
 }

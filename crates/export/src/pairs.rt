@@ -1,8 +1,8 @@
 // The pairs of a record as text: the lines of either format, and the relations of a tag.
-ghost use Rattle.model.specs.Layout.{fromPlace, toPlace, nameAt, pairsFrom, shown};
-ghost use Rattle.model.specs.Questions.{pairsOf};
+ghost use Rattle.model.specs.Layout.{from_place, to_place, name_at, pairs_from, shown};
+ghost use Rattle.model.specs.Questions.{pairs_of};
 ghost use Rattle.text.specs.Appending.{Appends};
-ghost use Rattle.export.specs.Texts.{pairText, pairTexts, pairsText};
+ghost use Rattle.export.specs.Texts.{pair_text, pair_texts, pairs_text};
 ghost use Rattle.export.specs.Places.{BodiesAt, PairsIn, RecordIn};
 
 use model::Kind;
@@ -22,7 +22,7 @@ fn append_pair(
 ) -> usize
     requires { BodiesAt b.now bodies × PairsIn b.now pair 1 }
     ensures { Appends out.old at
-        (pairText before.now between after.now (nameAt b.now (fromPlace b.now pair)) (nameAt b.now (toPlace b.now pair))) result out.new }
+        (pair_text before.now between after.now (name_at b.now (from_place b.now pair)) (name_at b.now (to_place b.now pair))) result out.new }
 {
     let from = name_in(b, bodies, pair_from(b, pair));
     let to = name_in(b, bodies, pair_to(b, pair));
@@ -46,7 +46,7 @@ fn append_run(
     after: &[u8],
 ) -> usize
     requires { BodiesAt b.now bodies × PairsIn b.now pairs count }
-    ensures { Appends out.old at (pairTexts before.now between after.now (pairsFrom b.now pairs count)) result out.new }
+    ensures { Appends out.old at (pair_texts before.now between after.now (pairs_from b.now pairs count)) result out.new }
 {
     let mut q = at;
     let mut p = pairs;
@@ -72,7 +72,7 @@ pub(crate) fn append_pairs(
 ) -> usize
     requires { RecordIn b.now }
     ensures { Appends out.old at
-        (pairsText first.now before.now between after.now (pairsOf kind (shown b.now))) result out.new }
+        (pairs_text first.now before.now between after.now (pairs_of kind (shown b.now))) result out.new }
 {
     let count = pair_count(b, kind);
     if count == 0 {

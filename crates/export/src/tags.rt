@@ -1,11 +1,11 @@
 // A record as the values of three tags: its name, and the relations of each kind.
 ghost use Rattle.std.specs.Prelude.{◌≡◌, true, ◌&&◌, ◌<◌, length};
 ghost use Rattle.model.specs.Layout.{shown};
-ghost use Rattle.model.specs.Questions.{pairsOf};
-ghost use Rattle.model.specs.Writing.{relationsTag};
-ghost use Rattle.model.specs.Written.{fits, tagsWritten};
+ghost use Rattle.model.specs.Questions.{pairs_of};
+ghost use Rattle.model.specs.Writing.{relations_tag};
+ghost use Rattle.model.specs.Written.{fits, tags_written};
 ghost use Rattle.text.specs.Appending.{Appends};
-ghost use Rattle.export.specs.Texts.{valueText};
+ghost use Rattle.export.specs.Texts.{value_text};
 ghost use Rattle.export.specs.Places.{RecordIn};
 ghost use Rattle.export.specs.Answers.{TagAnswers, AllAnswers};
 
@@ -18,7 +18,7 @@ use record::{has_name, pair_count};
 // Appends the relations of a kind to the front of the output: `from,to` for each pair, semicolons between.
 fn append_relations(out: &mut [u8], b: &[u8], kind: Kind) -> usize
     requires { RecordIn b.now }
-    ensures { Appends out.old 0 (valueText (relationsTag (pairsOf kind (shown b.now)))) result out.new }
+    ensures { Appends out.old 0 (value_text (relations_tag (pairs_of kind (shown b.now)))) result out.new }
 {
     append_pairs(out, 0, b, kind, b"", b";", 44, b"")
 }
@@ -26,7 +26,7 @@ fn append_relations(out: &mut [u8], b: &[u8], kind: Kind) -> usize
 // Whether each value fits an output of so many bytes.
 fn all_fit(b: &[u8], name: usize, subgraph: usize, translation: usize) -> bool
     requires { RecordIn b.now × (name < 18446744073709551615) × (subgraph < 18446744073709551615) × (translation < 18446744073709551615) }
-    ensures { result ≡ (fits (shown b.now).name name && (fits (relationsTag (shown b.now).subgraph) subgraph && fits (relationsTag (shown b.now).translation) translation)) }
+    ensures { result ≡ (fits (shown b.now).name name && (fits (relations_tag (shown b.now).subgraph) subgraph && fits (relations_tag (shown b.now).translation) translation)) }
 {
     let mut none: [u8; 0] = [];
     if name < append_name(&mut none, 0, b, b"", b"") {
@@ -55,8 +55,8 @@ fn write_name(out: &mut [u8], b: &[u8]) -> Tag
 
 // Writes the relations of a kind, if there are any.
 fn write_relations(out: &mut [u8], b: &[u8], kind: Kind) -> Tag
-    requires { RecordIn b.now × (fits (relationsTag (pairsOf kind (shown b.now))) (length out.old) ≡ true) }
-    ensures { TagAnswers (relationsTag (pairsOf kind (shown b.now))) out.old result out.new }
+    requires { RecordIn b.now × (fits (relations_tag (pairs_of kind (shown b.now))) (length out.old) ≡ true) }
+    ensures { TagAnswers (relations_tag (pairs_of kind (shown b.now))) out.old result out.new }
 {
     let size = append_relations(out, b, kind);
     if pair_count(b, kind) == 0 {
@@ -73,7 +73,7 @@ pub fn set_tags(
     translation: &mut [u8],
 ) -> WrittenTags
     ensures { AllAnswers
-        (tagsWritten b.now (length name.old) (length subgraph.old) (length translation.old))
+        (tags_written b.now (length name.old) (length subgraph.old) (length translation.old))
         name.old subgraph.old translation.old result name.new subgraph.new translation.new }
 {
     let number = record::fault(b);

@@ -13,38 +13,38 @@ use borrow.Author.Tests.{eqb-true, eq-eqb}
 use Rattle.model.specs.declared.Kind.{Kind}
 use Rattle.model.specs.declared.Kind.TheVariants.{Subgraph, Translation}
 use Rattle.model.specs.Text.{text}
-use Rattle.model.specs.Bytes.{Bytes, compareNumbers, compareBytes, sameBytes, isEmpty, split}
-use Rattle.model.specs.Record.{Pair, GraphName, withName}
-use Rattle.model.specs.Reading.{orWrong, twoParts, addTo, oneName, isTyped, typedField, isGafHead, gafLine}
-use Rattle.text.proofs.Order.{sameBytes-refl, sameBytes-true}
+use Rattle.model.specs.Bytes.{Bytes, compare_numbers, compare_bytes, same_bytes, is_empty, split}
+use Rattle.model.specs.Record.{Pair, GraphName, with_name}
+use Rattle.model.specs.Reading.{or_wrong, two_parts, add_to, one_name, is_typed, typed_field, is_gaf_head, gaf_line}
+use Rattle.text.proofs.Order.{same_bytes_refl, same_bytes_true}
 use Rattle.text.proofs.Tests.{both_true, same_tests}
-use Rattle.fields.specs.Fields.{FieldMeaning, apply, relatedBy, oneNamed, fault, nothing, named, classifyString, classifyTyped, classifyGaf}
-use Rattle.fields.specs.Contents.{typeOf}
+use Rattle.fields.specs.Fields.{FieldMeaning, apply, related_by, one_named, fault, nothing, named, classify_string, classify_typed, classify_gaf}
+use Rattle.fields.specs.Contents.{type_of}
 use Rattle.fields.specs.declared.field.Typed.{Typed}
 use Rattle.fields.specs.declared.field.Typed.TheVariants.{Untyped, String, Other}
 
 -- two bytes of a string are compared one by one
 pub two_bytes : (s : Bytes) (at x y : ℕ) → at + 2 ≤ length s
-    → sameBytes (take 2 (drop at s)) (x ∷ y ∷ []) ≡ eqb (get_or s at 0) x && eqb (get_or s (at + 1) 0) y
+    → same_bytes (take 2 (drop at s)) (x ∷ y ∷ []) ≡ eqb (get_or s at 0) x && eqb (get_or s (at + 1) 0) y
 two_bytes s at x y h =
     rw (drop-cons s at 0 (omega arith), drop-cons s (suc at) 0 (omega arith), add-one at) (go (get_or s at 0) (get_or s (suc at) 0))
   where
-    go : (a b : ℕ) → sameBytes (a ∷ b ∷ []) (x ∷ y ∷ []) ≡ eqb a x && eqb b y
+    go : (a b : ℕ) → same_bytes (a ∷ b ∷ []) (x ∷ y ∷ []) ≡ eqb a x && eqb b y
     go a b = same_tests _ _
         (λ e.
-        let l : ◌≡◌ {A = Bytes} (a ∷ b ∷ []) (x ∷ y ∷ []) = (sameBytes-true (a ∷ b ∷ []) (x ∷ y ∷ [])).0 e in
+        let l : ◌≡◌ {A = Bytes} (a ∷ b ∷ []) (x ∷ y ∷ []) = (same_bytes_true (a ∷ b ∷ []) (x ∷ y ∷ [])).0 e in
         let p : a ≡ x = cc in
         let q : b ≡ y = cc in
         rw (eq-eqb a x p, eq-eqb b y q))
         (λ e.
         let w = both_true (eqb a x) (eqb b y) e in
-        rw (eqb-true a x w.0, eqb-true b y w.1) (sameBytes-refl (x ∷ y ∷ [])))
+        rw (eqb-true a x w.0, eqb-true b y w.1) (same_bytes_refl (x ∷ y ∷ [])))
 
 -- a string that begins `@` is compared by what stands behind that
-same-behind : (s t : Bytes) → get_or s 0 0 ≡ 64 → sameBytes s (64 ∷ t) ≡ sameBytes (drop 1 s) t
-unfolding sameBytes compareBytes compareNumbers
-same-behind [] t e = let z : ◌≡◌ {A = ℕ} 0 1 = omega arith in cc
-same-behind (x ∷ s) t e = rw e
+same_behind : (s t : Bytes) → get_or s 0 0 ≡ 64 → same_bytes s (64 ∷ t) ≡ same_bytes (drop 1 s) t
+unfolding same_bytes compare_bytes compare_numbers
+same_behind [] t e = let z : ◌≡◌ {A = ℕ} 0 1 = omega arith in cc
+same_behind (x ∷ s) t e = rw e
 
 module _ (g : GraphName) where
   apply_cond : (t : Bool) (f e : FieldMeaning) → apply g (cond t f e) ≡ cond t (apply g f) (apply g e)
@@ -52,47 +52,47 @@ module _ (g : GraphName) where
   apply_cond false f e = refl
 
   -- a relation of either kind, whatever its separator: also that of a tag
-  pub relation-classified : (k : Kind) (n : ℕ) (p : Option Pair) → orWrong n (addTo k g p) ≡ apply g (relatedBy k n p)
-  relation-classified k n none = refl
-  relation-classified k n (some p) = refl
+  pub relation_classified : (k : Kind) (n : ℕ) (p : Option Pair) → or_wrong n (add_to k g p) ≡ apply g (related_by k n p)
+  relation_classified k n none = refl
+  relation_classified k n (some p) = refl
 
-  name-classified : (ws : List Bytes) → orWrong 6 (oneName g ws) ≡ apply g (oneNamed ws)
-  name-classified [] = refl
-  name-classified (w ∷ []) = go (isEmpty w)
+  name_classified : (ws : List Bytes) → or_wrong 6 (one_name g ws) ≡ apply g (one_named ws)
+  name_classified [] = refl
+  name_classified (w ∷ []) = go (is_empty w)
     where
-      go : (t : Bool) → orWrong 6 (cond t none (some (withName w g)))
+      go : (t : Bool) → or_wrong 6 (cond t none (some (with_name w g)))
           ≡ apply g (cond t (fault 6) (named w))
       go true = refl
       go false = refl
-  name-classified (w ∷ v ∷ ws) = refl
+  name_classified (w ∷ v ∷ ws) = refl
 
-  pub typed-classified : (f : Bytes) → typedField g f ≡ apply g (classifyTyped f)
-  unfolding typedField classifyTyped classifyString
-  typed-classified f =
-      let ps = twoParts (split 44 (drop 5 f)) in
-      simp (apply_cond, relation-classified Subgraph 4 ps, relation-classified Translation 5 ps)
+  pub typed_classified : (f : Bytes) → typed_field g f ≡ apply g (classify_typed f)
+  unfolding typed_field classify_typed classify_string
+  typed_classified f =
+      let ps = two_parts (split 44 (drop 5 f)) in
+      simp (apply_cond, relation_classified Subgraph 4 ps, relation_classified Translation 5 ps)
 
-  pub gaf-classified : (head : Bytes) (rest : List Bytes) → isGafHead head ≡ true → gafLine g head rest ≡ apply g (classifyGaf (drop 1 head) rest)
-  unfolding gafLine classifyGaf
-  gaf-classified head rest h =
+  pub gaf_classified : (head : Bytes) (rest : List Bytes) → is_gaf_head head ≡ true → gaf_line g head rest ≡ apply g (classify_gaf (drop 1 head) rest)
+  unfolding gaf_line classify_gaf
+  gaf_classified head rest h =
       let b : get_or head 0 0 ≡ 64 = eqb-true (get_or head 0 0) 64 (both_true (eqb (length head) 3) (eqb (get_or head 0 0) 64) h).1 in
-      let ps = twoParts rest in
-      rw (same-behind head (text "RN") b, same-behind head (text "SG") b, same-behind head (text "TL") b)
-      (simp (apply_cond, name-classified rest, relation-classified Subgraph 7 ps, relation-classified Translation 8 ps))
+      let ps = two_parts rest in
+      rw (same_behind head (text "RN") b, same_behind head (text "SG") b, same_behind head (text "TL") b)
+      (simp (apply_cond, name_classified rest, relation_classified Subgraph 7 ps, relation_classified Translation 8 ps))
 
-abbrev byType {ℓ} : {A : Type ℓ} → Typed → A → A → A → A
-byType Untyped a b c = a
-byType String a b c = b
-byType Other a b c = c
+abbrev by_type {ℓ} : {A : Type ℓ} → Typed → A → A → A → A
+by_type Untyped a b c = a
+by_type String a b c = b
+by_type Other a b c = c
 
 -- what a typed field says, by the answer about its type
-module _ (f : Bytes) (r : Typed) (e : r ≡ typeOf f) where
-  pub typed-by-type : byType r (fault 3) (classifyString f) nothing ≡ classifyTyped f
-  unfolding classifyTyped
-  typed-by-type = rw e (go (isTyped f) (eqb (get_or f 3 0) 90))
+module _ (f : Bytes) (r : Typed) (e : r ≡ type_of f) where
+  pub typed_by_type : by_type r (fault 3) (classify_string f) nothing ≡ classify_typed f
+  unfolding classify_typed
+  typed_by_type = rw e (go (is_typed f) (eqb (get_or f 3 0) 90))
     where
-      go : (t z : Bool) → byType (cond t (cond z String Other) Untyped) (fault 3) (classifyString f) nothing
-          ≡ cond (not t) (fault 3) (cond (not z) nothing (classifyString f))
+      go : (t z : Bool) → by_type (cond t (cond z String Other) Untyped) (fault 3) (classify_string f) nothing
+          ≡ cond (not t) (fault 3) (cond (not z) nothing (classify_string f))
       go true true = refl
       go true false = refl
       go false z = refl

@@ -1,9 +1,9 @@
 // What a field of an `H` line, an `@` line or a relation of a tag says by itself. Names are given by their places.
 ghost use Rattle.std.specs.Prelude.{◌≡◌, [], ◌∷◌, ◌+◌, ◌≤◌, ◌<◌, length, take, drop};
-ghost use Rattle.model.specs.Bytes.{sameBytes, split};
-ghost use Rattle.model.specs.Reading.{twoParts, tagNumber};
-ghost use Rattle.fields.specs.Fields.{relatedBy, relatedByTag, oneNamed, classifyString, classifyTyped, classifyGaf, classifyPart, separatorOf};
-ghost use Rattle.fields.specs.Contents.{typeOf, partsOf, NeitherEmpty, meaningOf, PlacesIn};
+ghost use Rattle.model.specs.Bytes.{same_bytes, split};
+ghost use Rattle.model.specs.Reading.{two_parts, tag_number};
+ghost use Rattle.fields.specs.Fields.{related_by, related_by_tag, one_named, classify_string, classify_typed, classify_gaf, classify_part, separator_of};
+ghost use Rattle.fields.specs.Contents.{type_of, parts_of, NeitherEmpty, meaning_of, PlacesIn};
 
 use model::Kind;
 
@@ -41,7 +41,7 @@ pub enum Content {
 
 // Whether a field is TAG:TYPE:VALUE, and whether its type is Z.
 pub fn typed_field_is_string(f: &[u8]) -> Typed
-    ensures { result ≡ typeOf f.now }
+    ensures { result ≡ type_of f.now }
 {
     if f.len() < 5 {
         return Typed::Untyped;
@@ -60,7 +60,7 @@ pub fn typed_field_is_string(f: &[u8]) -> Typed
 
 // Whether s is two non-empty parts round one separator.
 fn two_parts(s: &[u8], separator: u8) -> TwoParts
-    ensures { (partsOf s.now result ≡ twoParts (split separator s.now)) × NeitherEmpty s.now result }
+    ensures { (parts_of s.now result ≡ two_parts (split separator s.now)) × NeitherEmpty s.now result }
 {
     let i = text::find_byte(s, 0, separator);
     if i == 0 {
@@ -78,7 +78,7 @@ fn two_parts(s: &[u8], separator: u8) -> TwoParts
 // What f says from a place on, as a relation of a kind round a separator: the relation, or the number of its fault.
 fn relation(f: &[u8], from: usize, separator: u8, kind: Kind, number: usize) -> Content
     requires { from ≤ length f.now }
-    ensures { (meaningOf f.now result ≡ relatedBy kind number (twoParts (split separator (drop from f.now)))) × PlacesIn f.now result }
+    ensures { (meaning_of f.now result ≡ related_by kind number (two_parts (split separator (drop from f.now)))) × PlacesIn f.now result }
 {
     match two_parts(&f[from..], separator) {
         TwoParts::Absent => Content::Fault(number),
@@ -89,7 +89,7 @@ fn relation(f: &[u8], from: usize, separator: u8, kind: Kind, number: usize) -> 
 // Whether the two bytes of f at `at` are x and y.
 fn is_tag(f: &[u8], at: usize, x: u8, y: u8) -> bool
     requires { at + 2 ≤ length f.now }
-    ensures { result ≡ sameBytes (take 2 (drop at f.now)) (x ∷ y ∷ []) }
+    ensures { result ≡ same_bytes (take 2 (drop at f.now)) (x ∷ y ∷ []) }
 {
     if f[at] != x {
         return false;
@@ -108,7 +108,7 @@ fn tagged_relation(
     translation: usize,
 ) -> Content
     requires { (at + 2 ≤ from) × (from ≤ length f.now) }
-    ensures { (meaningOf f.now result ≡ relatedByTag (take 2 (drop at f.now)) subgraph translation (split separator (drop from f.now))) × PlacesIn f.now result }
+    ensures { (meaning_of f.now result ≡ related_by_tag (take 2 (drop at f.now)) subgraph translation (split separator (drop from f.now))) × PlacesIn f.now result }
 {
     if is_tag(f, at, b'S', b'G') {
         return relation(f, from, separator, Kind::Subgraph, subgraph);
@@ -122,7 +122,7 @@ fn tagged_relation(
 // What a typed field of type Z says, by its tag.
 fn string_field(f: &[u8]) -> Content
     requires { 5 ≤ length f.now }
-    ensures { (meaningOf f.now result ≡ classifyString f.now) × PlacesIn f.now result }
+    ensures { (meaning_of f.now result ≡ classify_string f.now) × PlacesIn f.now result }
 {
     if is_tag(f, 0, b'N', b'M') {
         return Content::Name(5);
@@ -132,7 +132,7 @@ fn string_field(f: &[u8]) -> Content
 
 // What a field of an `H` line after its first says.
 fn typed_field(f: &[u8]) -> Content
-    ensures { (meaningOf f.now result ≡ classifyTyped f.now) × PlacesIn f.now result }
+    ensures { (meaning_of f.now result ≡ classify_typed f.now) × PlacesIn f.now result }
 {
     match typed_field_is_string(f) {
         Typed::Untyped => Content::Fault(3),
@@ -144,7 +144,7 @@ fn typed_field(f: &[u8]) -> Content
 // What an `@RN` line says: its name, the one further field.
 fn name_line(line: &[u8]) -> Content
     requires { 4 ≤ length line.now }
-    ensures { (meaningOf line.now result ≡ oneNamed (split 9 (drop 4 line.now))) × PlacesIn line.now result }
+    ensures { (meaning_of line.now result ≡ one_named (split 9 (drop 4 line.now))) × PlacesIn line.now result }
 {
     if line.len() <= 4 {
         return Content::Fault(6);
@@ -158,7 +158,7 @@ fn name_line(line: &[u8]) -> Content
 // What a line says whose first field is `@` and a tag of two bytes.
 pub(crate) fn gaf_line(line: &[u8]) -> Content
     requires { 4 ≤ length line.now }
-    ensures { (meaningOf line.now result ≡ classifyGaf (take 2 (drop 1 line.now)) (split 9 (drop 4 line.now))) × PlacesIn line.now result }
+    ensures { (meaning_of line.now result ≡ classify_gaf (take 2 (drop 1 line.now)) (split 9 (drop 4 line.now))) × PlacesIn line.now result }
 {
     if is_tag(line, 1, b'R', b'N') {
         return name_line(line);
@@ -168,7 +168,7 @@ pub(crate) fn gaf_line(line: &[u8]) -> Content
 
 // The number for a wrong relation of a tag.
 fn tag_number(kind: Kind) -> usize
-    ensures { result ≡ tagNumber kind }
+    ensures { result ≡ tag_number kind }
 {
     match kind {
         Kind::Subgraph => 9,
@@ -178,7 +178,7 @@ fn tag_number(kind: Kind) -> usize
 
 // What stands between separators says: a field of an `H` line, or a relation of a tag.
 pub(crate) fn part_content(source: Source, f: &[u8]) -> Content
-    ensures { (meaningOf f.now result ≡ classifyPart source f.now) × PlacesIn f.now result }
+    ensures { (meaning_of f.now result ≡ classify_part source f.now) × PlacesIn f.now result }
 {
     match source {
         Source::Header => typed_field(f),
@@ -188,7 +188,7 @@ pub(crate) fn part_content(source: Source, f: &[u8]) -> Content
 
 // The separator of fields, or of relations.
 pub(crate) fn separator(source: Source) -> u8
-    ensures { result ≡ separatorOf source }
+    ensures { result ≡ separator_of source }
 {
     match source {
         Source::Header => b'\t',

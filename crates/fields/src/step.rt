@@ -1,7 +1,7 @@
 // The next field of a text, from a place on: the fields of an `H` line one by one, any other line as one field, the relations of a tag.
 ghost use Rattle.std.specs.Prelude.{◌≡◌, ◌≤◌, ◌<◌, length};
-ghost use Rattle.model.specs.Reading.{isGafHead};
-ghost use Rattle.fields.specs.Rest.{Position, lineField, Reads};
+ghost use Rattle.model.specs.Reading.{is_gaf_head};
+ghost use Rattle.fields.specs.Rest.{Position, line_field, Reads};
 
 use crate::field::{Content, Source, gaf_line, part_content, separator};
 
@@ -58,7 +58,7 @@ fn next_part(source: Source, t: &[u8], stop: usize, at: usize, tally: Tally) -> 
 
 // Whether a line's first field has three bytes and begins `@`.
 fn is_gaf_head(head: &[u8]) -> bool
-    ensures { result ≡ isGafHead head.now }
+    ensures { result ≡ is_gaf_head head.now }
 {
     head.len() == 3 && head[0] == b'@'
 }
@@ -72,7 +72,7 @@ fn line_read(
     stop: usize,
     tally: Tally,
 ) -> FieldRead
-    ensures { result ≡ record { field = lineField content offset start size stop; tally = tally } }
+    ensures { result ≡ record { field = line_field content offset start size stop; tally = tally } }
 {
     let field = Field {
         content,

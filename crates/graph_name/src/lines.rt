@@ -1,14 +1,14 @@
 // The strict reading of a header line.
 ghost use Rattle.std.specs.Prelude.{◌≡◌};
 ghost use Rattle.model.specs.Strict.{strict};
-ghost use Rattle.model.specs.Values.{strictNumber};
+ghost use Rattle.model.specs.Values.{strict_number};
 
 use model::Strictness;
 
 // 0 for a line that is fine, else one more than the number of the first faulty field.
 #[unsafe(no_mangle)]
 pub extern "C" fn graph_name_check_strict(line: &[u8]) -> u64
-    ensures { result ≡ strictNumber (strict line.now) }
+    ensures { result ≡ strict_number (strict line.now) }
 {
     match strict::check_strict(line) {
         Strictness::Fine => 0,

@@ -1,6 +1,6 @@
 // The path questions between the graphs of two records.
 ghost use Rattle.std.specs.Prelude.{◌≡◌, length};
-ghost use Rattle.model.specs.Outcome.{askSubgraph, askFull, outputAfter, answerNumber, answerValue};
+ghost use Rattle.model.specs.Outcome.{ask_subgraph, ask_full, output_after, answer_number, answer_value};
 
 use results::reply_out;
 
@@ -12,9 +12,9 @@ pub extern "C" fn graph_name_is_subgraph_of<'a>(
     out: &mut [u8],
     answer: &mut u64,
 ) -> u32
-    ensures value { result ≡ answerNumber (askSubgraph buffer.now other.now (length out.old)) }
-    ensures out_after { out.new ≡ outputAfter (askSubgraph buffer.now other.now (length out.old)) out.old }
-    ensures answer_after { answer.new ≡ answerValue answer.old (askSubgraph buffer.now other.now (length out.old)) }
+    ensures value { result ≡ answer_number (ask_subgraph buffer.now other.now (length out.old)) }
+    ensures out_after { out.new ≡ output_after (ask_subgraph buffer.now other.now (length out.old)) out.old }
+    ensures answer_after { answer.new ≡ answer_value answer.old (ask_subgraph buffer.now other.now (length out.old)) }
 {
     reply_out(questions::is_subgraph_of(buffer, other, out), answer)
 }
@@ -27,9 +27,9 @@ pub extern "C" fn graph_name_translates_to<'a>(
     out: &mut [u8],
     answer: &mut u64,
 ) -> u32
-    ensures value { result ≡ answerNumber (askFull buffer.now other.now (length out.old)) }
-    ensures out_after { out.new ≡ outputAfter (askFull buffer.now other.now (length out.old)) out.old }
-    ensures answer_after { answer.new ≡ answerValue answer.old (askFull buffer.now other.now (length out.old)) }
+    ensures value { result ≡ answer_number (ask_full buffer.now other.now (length out.old)) }
+    ensures out_after { out.new ≡ output_after (ask_full buffer.now other.now (length out.old)) out.old }
+    ensures answer_after { answer.new ≡ answer_value answer.old (ask_full buffer.now other.now (length out.old)) }
 {
     reply_out(questions::translates_to(buffer, other, out), answer)
 }

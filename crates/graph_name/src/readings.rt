@@ -1,7 +1,7 @@
 // Header lines and tags read into a record. A refusal leaves the empty record, but for 15, which writes nothing.
 ghost use Rattle.std.specs.Prelude.{◌≡◌};
-ghost use Rattle.model.specs.Reading.{fromHeaderLines, fromTags};
-ghost use Rattle.model.specs.Outcome.{readInto, readTagsInto, refusalInto};
+ghost use Rattle.model.specs.Reading.{from_header_lines, from_tags};
+ghost use Rattle.model.specs.Outcome.{read_into, read_tags_into, refusal_into};
 ghost use Rattle.model.specs.Values.{flagged};
 
 use results::refusal_out;
@@ -17,12 +17,12 @@ pub extern "C" fn graph_name_from_header_lines(
     length: &mut u64,
     offset: &mut u64,
 ) -> u32
-    ensures value { result ≡ (refusalInto (fromHeaderLines text.now) buffer.old).number }
-    ensures buffer_after { buffer.new ≡ (readInto text.now buffer.old).buffer }
-    ensures line_after { line.new ≡ (refusalInto (fromHeaderLines text.now) buffer.old).line }
-    ensures start_after { start.new ≡ (refusalInto (fromHeaderLines text.now) buffer.old).start }
-    ensures length_after { length.new ≡ (refusalInto (fromHeaderLines text.now) buffer.old).size }
-    ensures offset_after { offset.new ≡ (refusalInto (fromHeaderLines text.now) buffer.old).offset }
+    ensures value { result ≡ (refusal_into (from_header_lines text.now) buffer.old).number }
+    ensures buffer_after { buffer.new ≡ (read_into text.now buffer.old).buffer }
+    ensures line_after { line.new ≡ (refusal_into (from_header_lines text.now) buffer.old).line }
+    ensures start_after { start.new ≡ (refusal_into (from_header_lines text.now) buffer.old).start }
+    ensures length_after { length.new ≡ (refusal_into (from_header_lines text.now) buffer.old).size }
+    ensures offset_after { offset.new ≡ (refusal_into (from_header_lines text.now) buffer.old).offset }
 {
     refusal_out(
         parse::from_header_lines(text, buffer),
@@ -49,12 +49,12 @@ pub extern "C" fn graph_name_from_tags(
     length: &mut u64,
     offset: &mut u64,
 ) -> u32
-    ensures value { result ≡ (refusalInto (fromTags (flagged has_name name.now) (flagged has_subgraph subgraph.now) (flagged has_translation translation.now)) buffer.old).number }
-    ensures buffer_after { buffer.new ≡ (readTagsInto (flagged has_name name.now) (flagged has_subgraph subgraph.now) (flagged has_translation translation.now) buffer.old).buffer }
-    ensures line_after { line.new ≡ (refusalInto (fromTags (flagged has_name name.now) (flagged has_subgraph subgraph.now) (flagged has_translation translation.now)) buffer.old).line }
-    ensures start_after { start.new ≡ (refusalInto (fromTags (flagged has_name name.now) (flagged has_subgraph subgraph.now) (flagged has_translation translation.now)) buffer.old).start }
-    ensures length_after { length.new ≡ (refusalInto (fromTags (flagged has_name name.now) (flagged has_subgraph subgraph.now) (flagged has_translation translation.now)) buffer.old).size }
-    ensures offset_after { offset.new ≡ (refusalInto (fromTags (flagged has_name name.now) (flagged has_subgraph subgraph.now) (flagged has_translation translation.now)) buffer.old).offset }
+    ensures value { result ≡ (refusal_into (from_tags (flagged has_name name.now) (flagged has_subgraph subgraph.now) (flagged has_translation translation.now)) buffer.old).number }
+    ensures buffer_after { buffer.new ≡ (read_tags_into (flagged has_name name.now) (flagged has_subgraph subgraph.now) (flagged has_translation translation.now) buffer.old).buffer }
+    ensures line_after { line.new ≡ (refusal_into (from_tags (flagged has_name name.now) (flagged has_subgraph subgraph.now) (flagged has_translation translation.now)) buffer.old).line }
+    ensures start_after { start.new ≡ (refusal_into (from_tags (flagged has_name name.now) (flagged has_subgraph subgraph.now) (flagged has_translation translation.now)) buffer.old).start }
+    ensures length_after { length.new ≡ (refusal_into (from_tags (flagged has_name name.now) (flagged has_subgraph subgraph.now) (flagged has_translation translation.now)) buffer.old).size }
+    ensures offset_after { offset.new ≡ (refusal_into (from_tags (flagged has_name name.now) (flagged has_subgraph subgraph.now) (flagged has_translation translation.now)) buffer.old).offset }
 {
     refusal_out(
         parse::from_tags(

@@ -1,9 +1,9 @@
 // What a record holds, one by one.
 ghost use Rattle.std.specs.Prelude.{◌≡◌};
 ghost use Rattle.model.specs.declared.Kind.TheVariants.{Subgraph, Translation};
-ghost use Rattle.model.specs.Questions.{countsIn, nameIn, nameAtIn, pairAtIn, isSameIn};
-ghost use Rattle.model.specs.Opening.{numberOf, valueOr};
-ghost use Rattle.model.specs.Values.{oneIf, isPresent, partStart, partSize, fromStart, fromSize, toStart, toSize};
+ghost use Rattle.model.specs.Questions.{counts_in, name_in, name_at_in, pair_at_in, is_same_in};
+ghost use Rattle.model.specs.Opening.{number_of, value_or};
+ghost use Rattle.model.specs.Values.{one_if, is_present, part_start, part_size, from_start_of, from_size_of, to_start_of, to_size_of};
 
 use model::Kind;
 use results::{counts_out, pair_out, part_out, same_out};
@@ -16,10 +16,10 @@ pub extern "C" fn graph_name_counts(
     subgraph: &mut u64,
     translation: &mut u64,
 ) -> u32
-    ensures value { result ≡ numberOf (countsIn buffer.now) }
-    ensures names_after { names.new ≡ valueOr names.old (λ c. c.names) (countsIn buffer.now) }
-    ensures subgraph_after { subgraph.new ≡ valueOr subgraph.old (λ c. c.subgraph) (countsIn buffer.now) }
-    ensures translation_after { translation.new ≡ valueOr translation.old (λ c. c.translation) (countsIn buffer.now) }
+    ensures value { result ≡ number_of (counts_in buffer.now) }
+    ensures names_after { names.new ≡ value_or names.old (λ c. c.names) (counts_in buffer.now) }
+    ensures subgraph_after { subgraph.new ≡ value_or subgraph.old (λ c. c.subgraph) (counts_in buffer.now) }
+    ensures translation_after { translation.new ≡ value_or translation.old (λ c. c.translation) (counts_in buffer.now) }
 {
     counts_out(accessors::counts(buffer), names, subgraph, translation)
 }
@@ -32,10 +32,10 @@ pub extern "C" fn graph_name_name(
     start: &mut u64,
     length: &mut u64,
 ) -> u32
-    ensures value { result ≡ numberOf (nameIn buffer.now) }
-    ensures present_after { present.new ≡ valueOr present.old isPresent (nameIn buffer.now) }
-    ensures start_after { start.new ≡ valueOr start.old partStart (nameIn buffer.now) }
-    ensures length_after { length.new ≡ valueOr length.old partSize (nameIn buffer.now) }
+    ensures value { result ≡ number_of (name_in buffer.now) }
+    ensures present_after { present.new ≡ value_or present.old is_present (name_in buffer.now) }
+    ensures start_after { start.new ≡ value_or start.old part_start (name_in buffer.now) }
+    ensures length_after { length.new ≡ value_or length.old part_size (name_in buffer.now) }
 {
     part_out(accessors::name(buffer), present, start, length)
 }
@@ -49,10 +49,10 @@ pub extern "C" fn graph_name_name_at(
     start: &mut u64,
     length: &mut u64,
 ) -> u32
-    ensures value { result ≡ numberOf (nameAtIn buffer.now place) }
-    ensures present_after { present.new ≡ valueOr present.old isPresent (nameAtIn buffer.now place) }
-    ensures start_after { start.new ≡ valueOr start.old partStart (nameAtIn buffer.now place) }
-    ensures length_after { length.new ≡ valueOr length.old partSize (nameAtIn buffer.now place) }
+    ensures value { result ≡ number_of (name_at_in buffer.now place) }
+    ensures present_after { present.new ≡ value_or present.old is_present (name_at_in buffer.now place) }
+    ensures start_after { start.new ≡ value_or start.old part_start (name_at_in buffer.now place) }
+    ensures length_after { length.new ≡ value_or length.old part_size (name_at_in buffer.now place) }
 {
     part_out(
         accessors::name_place(buffer, place as usize),
@@ -73,12 +73,12 @@ pub extern "C" fn graph_name_subgraph_at(
     to_start: &mut u64,
     to_length: &mut u64,
 ) -> u32
-    ensures value { result ≡ numberOf (pairAtIn Subgraph buffer.now place) }
-    ensures present_after { present.new ≡ valueOr present.old isPresent (pairAtIn Subgraph buffer.now place) }
-    ensures from_start_after { from_start.new ≡ valueOr from_start.old fromStart (pairAtIn Subgraph buffer.now place) }
-    ensures from_length_after { from_length.new ≡ valueOr from_length.old fromSize (pairAtIn Subgraph buffer.now place) }
-    ensures to_start_after { to_start.new ≡ valueOr to_start.old toStart (pairAtIn Subgraph buffer.now place) }
-    ensures to_length_after { to_length.new ≡ valueOr to_length.old toSize (pairAtIn Subgraph buffer.now place) }
+    ensures value { result ≡ number_of (pair_at_in Subgraph buffer.now place) }
+    ensures present_after { present.new ≡ value_or present.old is_present (pair_at_in Subgraph buffer.now place) }
+    ensures from_start_after { from_start.new ≡ value_or from_start.old from_start_of (pair_at_in Subgraph buffer.now place) }
+    ensures from_length_after { from_length.new ≡ value_or from_length.old from_size_of (pair_at_in Subgraph buffer.now place) }
+    ensures to_start_after { to_start.new ≡ value_or to_start.old to_start_of (pair_at_in Subgraph buffer.now place) }
+    ensures to_length_after { to_length.new ≡ value_or to_length.old to_size_of (pair_at_in Subgraph buffer.now place) }
 {
     pair_out(
         accessors::pair_place(buffer, Kind::Subgraph, place as usize),
@@ -101,12 +101,12 @@ pub extern "C" fn graph_name_translation_at(
     to_start: &mut u64,
     to_length: &mut u64,
 ) -> u32
-    ensures value { result ≡ numberOf (pairAtIn Translation buffer.now place) }
-    ensures present_after { present.new ≡ valueOr present.old isPresent (pairAtIn Translation buffer.now place) }
-    ensures from_start_after { from_start.new ≡ valueOr from_start.old fromStart (pairAtIn Translation buffer.now place) }
-    ensures from_length_after { from_length.new ≡ valueOr from_length.old fromSize (pairAtIn Translation buffer.now place) }
-    ensures to_start_after { to_start.new ≡ valueOr to_start.old toStart (pairAtIn Translation buffer.now place) }
-    ensures to_length_after { to_length.new ≡ valueOr to_length.old toSize (pairAtIn Translation buffer.now place) }
+    ensures value { result ≡ number_of (pair_at_in Translation buffer.now place) }
+    ensures present_after { present.new ≡ value_or present.old is_present (pair_at_in Translation buffer.now place) }
+    ensures from_start_after { from_start.new ≡ value_or from_start.old from_start_of (pair_at_in Translation buffer.now place) }
+    ensures from_length_after { from_length.new ≡ value_or from_length.old from_size_of (pair_at_in Translation buffer.now place) }
+    ensures to_start_after { to_start.new ≡ value_or to_start.old to_start_of (pair_at_in Translation buffer.now place) }
+    ensures to_length_after { to_length.new ≡ value_or to_length.old to_size_of (pair_at_in Translation buffer.now place) }
 {
     pair_out(
         accessors::pair_place(buffer, Kind::Translation, place as usize),
@@ -121,8 +121,8 @@ pub extern "C" fn graph_name_translation_at(
 // Whether both records are named, by the same name.
 #[unsafe(no_mangle)]
 pub extern "C" fn graph_name_is_same(buffer: &[u8], other: &[u8], answer: &mut u64) -> u32
-    ensures value { result ≡ numberOf (isSameIn buffer.now other.now) }
-    ensures answer_after { answer.new ≡ valueOr answer.old oneIf (isSameIn buffer.now other.now) }
+    ensures value { result ≡ number_of (is_same_in buffer.now other.now) }
+    ensures answer_after { answer.new ≡ value_or answer.old one_if (is_same_in buffer.now other.now) }
 {
     same_out(accessors::is_same(buffer, other), answer)
 }

@@ -1,17 +1,17 @@
 // Tag lists: what a list holds, by place and by key, one tag set or removed, and a record's tags put in. A refusal leaves the list and the
 // output as they were.
 ghost use Rattle.std.specs.Prelude.{◌≡◌, length};
-ghost use Rattle.model.specs.Opening.{numberOf, valueOr};
-ghost use Rattle.model.specs.TagOutcome.{tagCountIn, tagAtIn, getIn, containsIn, insertIn, removeIn, setGraphNameIn, restGiven, listWith, outputWithRemoved};
-ghost use Rattle.model.specs.Values.{oneIf, isPresent, lengthOf, partStart, partSize, keyStart, keySize, valueStart, valueSize};
+ghost use Rattle.model.specs.Opening.{number_of, value_or};
+ghost use Rattle.model.specs.TagOutcome.{tag_count_in, tag_at_in, get_in, contains_in, insert_in, remove_in, set_graph_name_in, rest_given, list_with, output_with_removed};
+ghost use Rattle.model.specs.Values.{one_if, is_present, length_of, part_start, part_size, key_start_of, key_size_of, value_start_of, value_size_of};
 
 use results::{count_out, part_out, removal_out, same_out, tag_parts_out};
 
 // How many tags a list holds.
 #[unsafe(no_mangle)]
 pub extern "C" fn graph_name_tags_counts(list: &[u8], tags: &mut u64) -> u32
-    ensures value { result ≡ numberOf (tagCountIn list.now) }
-    ensures tags_after { tags.new ≡ valueOr tags.old (λ n. n) (tagCountIn list.now) }
+    ensures value { result ≡ number_of (tag_count_in list.now) }
+    ensures tags_after { tags.new ≡ value_or tags.old (λ n. n) (tag_count_in list.now) }
 {
     count_out(tag_list::counts(list), tags)
 }
@@ -27,12 +27,12 @@ pub extern "C" fn graph_name_tags_at(
     value_start: &mut u64,
     value_length: &mut u64,
 ) -> u32
-    ensures value { result ≡ numberOf (tagAtIn list.now place) }
-    ensures present_after { present.new ≡ valueOr present.old isPresent (tagAtIn list.now place) }
-    ensures key_start_after { key_start.new ≡ valueOr key_start.old keyStart (tagAtIn list.now place) }
-    ensures key_length_after { key_length.new ≡ valueOr key_length.old keySize (tagAtIn list.now place) }
-    ensures value_start_after { value_start.new ≡ valueOr value_start.old valueStart (tagAtIn list.now place) }
-    ensures value_length_after { value_length.new ≡ valueOr value_length.old valueSize (tagAtIn list.now place) }
+    ensures value { result ≡ number_of (tag_at_in list.now place) }
+    ensures present_after { present.new ≡ value_or present.old is_present (tag_at_in list.now place) }
+    ensures key_start_after { key_start.new ≡ value_or key_start.old key_start_of (tag_at_in list.now place) }
+    ensures key_length_after { key_length.new ≡ value_or key_length.old key_size_of (tag_at_in list.now place) }
+    ensures value_start_after { value_start.new ≡ value_or value_start.old value_start_of (tag_at_in list.now place) }
+    ensures value_length_after { value_length.new ≡ value_or value_length.old value_size_of (tag_at_in list.now place) }
 {
     tag_parts_out(
         tag_list::tag_place(list, place as usize),
@@ -53,10 +53,10 @@ pub extern "C" fn graph_name_tags_get(
     start: &mut u64,
     length: &mut u64,
 ) -> u32
-    ensures value { result ≡ numberOf (getIn list.now key.now) }
-    ensures present_after { present.new ≡ valueOr present.old isPresent (getIn list.now key.now) }
-    ensures start_after { start.new ≡ valueOr start.old partStart (getIn list.now key.now) }
-    ensures length_after { length.new ≡ valueOr length.old partSize (getIn list.now key.now) }
+    ensures value { result ≡ number_of (get_in list.now key.now) }
+    ensures present_after { present.new ≡ value_or present.old is_present (get_in list.now key.now) }
+    ensures start_after { start.new ≡ value_or start.old part_start (get_in list.now key.now) }
+    ensures length_after { length.new ≡ value_or length.old part_size (get_in list.now key.now) }
 {
     part_out(tag_list::get(list, key), present, start, length)
 }
@@ -64,8 +64,8 @@ pub extern "C" fn graph_name_tags_get(
 // Whether a list holds a key.
 #[unsafe(no_mangle)]
 pub extern "C" fn graph_name_tags_contains_key(list: &[u8], key: &[u8], answer: &mut u64) -> u32
-    ensures value { result ≡ numberOf (containsIn list.now key.now) }
-    ensures answer_after { answer.new ≡ valueOr answer.old oneIf (containsIn list.now key.now) }
+    ensures value { result ≡ number_of (contains_in list.now key.now) }
+    ensures answer_after { answer.new ≡ value_or answer.old one_if (contains_in list.now key.now) }
 {
     same_out(tag_list::contains_key(list, key), answer)
 }
@@ -73,8 +73,8 @@ pub extern "C" fn graph_name_tags_contains_key(list: &[u8], key: &[u8], answer: 
 // Sets a key to a value.
 #[unsafe(no_mangle)]
 pub extern "C" fn graph_name_tags_insert(list: &mut [u8], key: &[u8], value: &[u8]) -> u32
-    ensures value { result ≡ numberOf (insertIn list.old key.now value.now) }
-    ensures list_after { list.new ≡ listWith (insertIn list.old key.now value.now) list.old }
+    ensures value { result ≡ number_of (insert_in list.old key.now value.now) }
+    ensures list_after { list.new ≡ list_with (insert_in list.old key.now value.now) list.old }
 {
     tag_edits::insert(list, key, value)
 }
@@ -89,11 +89,11 @@ pub extern "C" fn graph_name_tags_remove(
     present: &mut u64,
     written: &mut u64,
 ) -> u32
-    ensures value { result ≡ numberOf (removeIn list.old key.now (length out.old)) }
-    ensures list_after { list.new ≡ listWith (restGiven (removeIn list.old key.now (length out.old))) list.old }
-    ensures out_after { out.new ≡ outputWithRemoved (removeIn list.old key.now (length out.old)) out.old }
-    ensures present_after { present.new ≡ valueOr present.old (λ v. isPresent v.value) (removeIn list.old key.now (length out.old)) }
-    ensures written_after { written.new ≡ valueOr written.old (λ v. lengthOf v.value) (removeIn list.old key.now (length out.old)) }
+    ensures value { result ≡ number_of (remove_in list.old key.now (length out.old)) }
+    ensures list_after { list.new ≡ list_with (rest_given (remove_in list.old key.now (length out.old))) list.old }
+    ensures out_after { out.new ≡ output_with_removed (remove_in list.old key.now (length out.old)) out.old }
+    ensures present_after { present.new ≡ value_or present.old (λ v. is_present v.value) (remove_in list.old key.now (length out.old)) }
+    ensures written_after { written.new ≡ value_or written.old (λ v. length_of v.value) (remove_in list.old key.now (length out.old)) }
 {
     removal_out(tag_edits::remove(list, key, out), present, written)
 }
@@ -101,8 +101,8 @@ pub extern "C" fn graph_name_tags_remove(
 // Puts a record's three tags into a list at once, and removes those that the record has not.
 #[unsafe(no_mangle)]
 pub extern "C" fn graph_name_tags_set_graph_name(list: &mut [u8], buffer: &[u8]) -> u32
-    ensures value { result ≡ numberOf (setGraphNameIn list.old buffer.now) }
-    ensures list_after { list.new ≡ listWith (setGraphNameIn list.old buffer.now) list.old }
+    ensures value { result ≡ number_of (set_graph_name_in list.old buffer.now) }
+    ensures list_after { list.new ≡ list_with (set_graph_name_in list.old buffer.now) list.old }
 {
     graph_tags::set_graph_name(list, buffer)
 }

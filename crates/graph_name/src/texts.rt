@@ -1,8 +1,8 @@
 // A record written as text, a refusal as the Rust's error text, and how two graphs are related.
 ghost use Rattle.std.specs.Prelude.{◌≡◌, length};
-ghost use Rattle.model.specs.Opening.{numberOf, valueOr};
-ghost use Rattle.model.specs.Written.{gfaWritten, gafWritten, messageWritten, relationshipWritten, outputWith, tagsWritten, outputWithTag};
-ghost use Rattle.model.specs.Values.{isPresent, lengthOf};
+ghost use Rattle.model.specs.Opening.{number_of, value_or};
+ghost use Rattle.model.specs.Written.{gfa_written, gaf_written, message_written, relationship_written, output_with, tags_written, output_with_tag};
+ghost use Rattle.model.specs.Values.{is_present, length_of};
 
 use results::{size_out, tags_out};
 
@@ -13,9 +13,9 @@ pub extern "C" fn graph_name_to_gfa_header_lines(
     out: &mut [u8],
     written: &mut u64,
 ) -> u32
-    ensures value { result ≡ numberOf (gfaWritten buffer.now (length out.old)) }
-    ensures out_after { out.new ≡ outputWith (gfaWritten buffer.now (length out.old)) out.old }
-    ensures written_after { written.new ≡ valueOr written.old length (gfaWritten buffer.now (length out.old)) }
+    ensures value { result ≡ number_of (gfa_written buffer.now (length out.old)) }
+    ensures out_after { out.new ≡ output_with (gfa_written buffer.now (length out.old)) out.old }
+    ensures written_after { written.new ≡ value_or written.old length (gfa_written buffer.now (length out.old)) }
 {
     size_out(export::to_gfa_header_lines(buffer, out), written)
 }
@@ -27,9 +27,9 @@ pub extern "C" fn graph_name_to_gaf_header_lines(
     out: &mut [u8],
     written: &mut u64,
 ) -> u32
-    ensures value { result ≡ numberOf (gafWritten buffer.now (length out.old)) }
-    ensures out_after { out.new ≡ outputWith (gafWritten buffer.now (length out.old)) out.old }
-    ensures written_after { written.new ≡ valueOr written.old length (gafWritten buffer.now (length out.old)) }
+    ensures value { result ≡ number_of (gaf_written buffer.now (length out.old)) }
+    ensures out_after { out.new ≡ output_with (gaf_written buffer.now (length out.old)) out.old }
+    ensures written_after { written.new ≡ value_or written.old length (gaf_written buffer.now (length out.old)) }
 {
     size_out(export::to_gaf_header_lines(buffer, out), written)
 }
@@ -43,9 +43,9 @@ pub extern "C" fn graph_name_error_message(
     out: &mut [u8],
     written: &mut u64,
 ) -> u32
-    ensures value { result ≡ numberOf (messageWritten number line part.now (length out.old)) }
-    ensures out_after { out.new ≡ outputWith (messageWritten number line part.now (length out.old)) out.old }
-    ensures written_after { written.new ≡ valueOr written.old length (messageWritten number line part.now (length out.old)) }
+    ensures value { result ≡ number_of (message_written number line part.now (length out.old)) }
+    ensures out_after { out.new ≡ output_with (message_written number line part.now (length out.old)) out.old }
+    ensures written_after { written.new ≡ value_or written.old length (message_written number line part.now (length out.old)) }
 {
     size_out(
         export::error_message(number as usize, line as usize, part, out),
@@ -63,9 +63,9 @@ pub extern "C" fn graph_name_describe_relationship<'a>(
     out: &mut [u8],
     written: &mut u64,
 ) -> u32
-    ensures value { result ≡ numberOf (relationshipWritten buffer.now other.now self_desc.now other_desc.now (length out.old)) }
-    ensures out_after { out.new ≡ outputWith (relationshipWritten buffer.now other.now self_desc.now other_desc.now (length out.old)) out.old }
-    ensures written_after { written.new ≡ valueOr written.old length (relationshipWritten buffer.now other.now self_desc.now other_desc.now (length out.old)) }
+    ensures value { result ≡ number_of (relationship_written buffer.now other.now self_desc.now other_desc.now (length out.old)) }
+    ensures out_after { out.new ≡ output_with (relationship_written buffer.now other.now self_desc.now other_desc.now (length out.old)) out.old }
+    ensures written_after { written.new ≡ value_or written.old length (relationship_written buffer.now other.now self_desc.now other_desc.now (length out.old)) }
 {
     size_out(
         describe::describe_relationship(buffer, other, self_desc, other_desc, out),
@@ -87,16 +87,16 @@ pub extern "C" fn graph_name_set_tags(
     has_translation: &mut u64,
     translation_length: &mut u64,
 ) -> u32
-    ensures value { result ≡ numberOf (tagsWritten buffer.now (length name.old) (length subgraph.old) (length translation.old)) }
-    ensures name_after { name.new ≡ outputWithTag (λ v. v.name) (tagsWritten buffer.now (length name.old) (length subgraph.old) (length translation.old)) name.old }
-    ensures subgraph_after { subgraph.new ≡ outputWithTag (λ v. v.subgraph) (tagsWritten buffer.now (length name.old) (length subgraph.old) (length translation.old)) subgraph.old }
-    ensures translation_after { translation.new ≡ outputWithTag (λ v. v.translation) (tagsWritten buffer.now (length name.old) (length subgraph.old) (length translation.old)) translation.old }
-    ensures has_name_after { has_name.new ≡ valueOr has_name.old (λ v. isPresent v.name) (tagsWritten buffer.now (length name.old) (length subgraph.old) (length translation.old)) }
-    ensures name_length_after { name_length.new ≡ valueOr name_length.old (λ v. lengthOf v.name) (tagsWritten buffer.now (length name.old) (length subgraph.old) (length translation.old)) }
-    ensures has_subgraph_after { has_subgraph.new ≡ valueOr has_subgraph.old (λ v. isPresent v.subgraph) (tagsWritten buffer.now (length name.old) (length subgraph.old) (length translation.old)) }
-    ensures subgraph_length_after { subgraph_length.new ≡ valueOr subgraph_length.old (λ v. lengthOf v.subgraph) (tagsWritten buffer.now (length name.old) (length subgraph.old) (length translation.old)) }
-    ensures has_translation_after { has_translation.new ≡ valueOr has_translation.old (λ v. isPresent v.translation) (tagsWritten buffer.now (length name.old) (length subgraph.old) (length translation.old)) }
-    ensures translation_length_after { translation_length.new ≡ valueOr translation_length.old (λ v. lengthOf v.translation) (tagsWritten buffer.now (length name.old) (length subgraph.old) (length translation.old)) }
+    ensures value { result ≡ number_of (tags_written buffer.now (length name.old) (length subgraph.old) (length translation.old)) }
+    ensures name_after { name.new ≡ output_with_tag (λ v. v.name) (tags_written buffer.now (length name.old) (length subgraph.old) (length translation.old)) name.old }
+    ensures subgraph_after { subgraph.new ≡ output_with_tag (λ v. v.subgraph) (tags_written buffer.now (length name.old) (length subgraph.old) (length translation.old)) subgraph.old }
+    ensures translation_after { translation.new ≡ output_with_tag (λ v. v.translation) (tags_written buffer.now (length name.old) (length subgraph.old) (length translation.old)) translation.old }
+    ensures has_name_after { has_name.new ≡ value_or has_name.old (λ v. is_present v.name) (tags_written buffer.now (length name.old) (length subgraph.old) (length translation.old)) }
+    ensures name_length_after { name_length.new ≡ value_or name_length.old (λ v. length_of v.name) (tags_written buffer.now (length name.old) (length subgraph.old) (length translation.old)) }
+    ensures has_subgraph_after { has_subgraph.new ≡ value_or has_subgraph.old (λ v. is_present v.subgraph) (tags_written buffer.now (length name.old) (length subgraph.old) (length translation.old)) }
+    ensures subgraph_length_after { subgraph_length.new ≡ value_or subgraph_length.old (λ v. length_of v.subgraph) (tags_written buffer.now (length name.old) (length subgraph.old) (length translation.old)) }
+    ensures has_translation_after { has_translation.new ≡ value_or has_translation.old (λ v. is_present v.translation) (tags_written buffer.now (length name.old) (length subgraph.old) (length translation.old)) }
+    ensures translation_length_after { translation_length.new ≡ value_or translation_length.old (λ v. length_of v.translation) (tags_written buffer.now (length name.old) (length subgraph.old) (length translation.old)) }
 {
     tags_out(
         export::set_tags(buffer, name, subgraph, translation),

@@ -10,20 +10,20 @@ use native.Mathlib.Omega.{arith}
 use lib.ListN.{length, get_elem?}
 use lib.Dec.{leb}
 use borrow.Author.Tests.{leb-true, le-leb}
-use Rattle.model.specs.Bytes.{Bytes, sameBytes}
-use Rattle.model.specs.Opening.{Given, refuses, gives, andThen, orRefuse, numberOf, isSome}
+use Rattle.model.specs.Bytes.{Bytes, same_bytes}
+use Rattle.model.specs.Opening.{Given, refuses, gives, and_then, or_refuse, number_of, is_some}
 use Rattle.model.specs.Questions.{mapped}
 use Rattle.model.specs.Written.{fits}
-use Rattle.model.specs.TagList.{Tag, lookUp, setTag, removeTag, maxTags, maxValue, lower, fineKey, storedKey, encodeTags, decodeTags, keysAfter, tagCountLength}
-use Rattle.model.specs.TagOutcome.{Removal, tagList, readyKey, partsWith, valuePart, tagAtIn, getIn, valueIn, judgedTags, insertIn, removeIn, restGiven, listWith}
-use Rattle.model.specs.TagStatements.{ValidTags, TagsAreMap, partIn, tagWithin}
-use Rattle.tag_list.proofs.Map.{set-same, set-other, remove-same, remove-other, same_lists}
-use Rattle.tag_list.proofs.Lowering.{lower-stored, lower-same, stored-fine}
-use Rattle.tag_list.proofs.Valid.{length-set, set-valid, remove-valid}
-use Rattle.tag_list.proofs.Standing.{valid-stored}
-use Rattle.tag_list.proofs.Coding.{tags-decoded, decoded-valid, decoded-stands}
-use Rattle.graph_tags.proofs.ThreeSet.{three-set}
-use Rattle.tag_edits.proofs.Outcome.{tagList-gives, with-key-gives, with-key-accepted, judged-gives, judged-accepted, value-decoded, value-encoded, look-unstored, parts-look, parts-listed, changed-value}
+use Rattle.model.specs.TagList.{Tag, look_up, set_tag, remove_tag, max_tags, max_value, lower, fine_key, stored_key, encode_tags, decode_tags, keys_after, tag_count_length}
+use Rattle.model.specs.TagOutcome.{Removal, tag_list, ready_key, parts_with, value_part, tag_at_in, get_in, value_in, judged_tags, insert_in, remove_in, rest_given, list_with}
+use Rattle.model.specs.TagStatements.{ValidTags, TagsAreMap, part_in, tag_within}
+use Rattle.tag_list.proofs.Map.{set_same, set_other, remove_same, remove_other, same_lists}
+use Rattle.tag_list.proofs.Lowering.{lower_stored, lower_same, stored_fine}
+use Rattle.tag_list.proofs.Valid.{length_set, set_valid, remove_valid}
+use Rattle.tag_list.proofs.Standing.{valid_stored}
+use Rattle.tag_list.proofs.Coding.{tags_decoded, decoded_valid, decoded_stands}
+use Rattle.graph_tags.proofs.ThreeSet.{three_set}
+use Rattle.tag_edits.proofs.Outcome.{tag_list_gives, with_key_gives, with_key_accepted, judged_gives, judged_accepted, value_decoded, value_encoded, look_unstored, parts_look, parts_listed, changed_value}
 
 -- what is given is the same
 given : {x y : Option Bytes} → gives x ≡ gives y → x ≡ y
@@ -31,123 +31,123 @@ given e = cc
 
 -- ------------------------------------------------------------------ where keys and values stand
 
-got : (b key : Bytes) → valueIn b key ≡ andThen (getIn b key) λ o. gives (mapped (partIn b) o)
-unfolding valueIn getIn tagList readyKey
-got b key = go (decodeTags b) refl (fineKey key)
+got : (b key : Bytes) → value_in b key ≡ and_then (get_in b key) λ o. gives (mapped (part_in b) o)
+unfolding value_in get_in tag_list ready_key
+got b key = go (decode_tags b) refl (fine_key key)
   where
-    go : (o : Option (List Tag)) → decodeTags b ≡ o → (t : Bool)
-        → andThen (orRefuse 29 o) (λ ts. andThen (cond t (gives (lower key)) (refuses 19)) λ k. gives (lookUp k ts))
-        ≡ andThen
-        (andThen (orRefuse 29 o) (λ ts. andThen (cond t (gives (lower key)) (refuses 19)) λ k. gives (mapped valuePart (partsWith (keysAfter (length ts)) k ts))))
-        λ o. gives (mapped (partIn b) o)
+    go : (o : Option (List Tag)) → decode_tags b ≡ o → (t : Bool)
+        → and_then (or_refuse 29 o) (λ ts. and_then (cond t (gives (lower key)) (refuses 19)) λ k. gives (look_up k ts))
+        ≡ and_then
+        (and_then (or_refuse 29 o) (λ ts. and_then (cond t (gives (lower key)) (refuses 19)) λ k. gives (mapped value_part (parts_with (keys_after (length ts)) k ts))))
+        λ o. gives (mapped (part_in b) o)
     go none d t = refl
     go (some ts) d false = refl
-    go (some ts) d true = ap gives (sym (parts-look b (lower key) ts tagCountLength (keysAfter (length ts)) (decoded-stands b ts d)))
+    go (some ts) d true = ap gives (sym (parts_look b (lower key) ts tag_count_length (keys_after (length ts)) (decoded_stands b ts d)))
 
-listed : (b : Bytes) (ts : List Tag) (i : ℕ) → decodeTags b ≡ some ts
-    → andThen (tagAtIn b i) (λ o. gives (mapped (tagWithin b) o)) ≡ gives (get_elem? ts i)
-unfolding tagAtIn
+listed : (b : Bytes) (ts : List Tag) (i : ℕ) → decode_tags b ≡ some ts
+    → and_then (tag_at_in b i) (λ o. gives (mapped (tag_within b) o)) ≡ gives (get_elem? ts i)
+unfolding tag_at_in
 listed b ts i d =
-    rw (tagList-gives b ts d) (ap gives (parts-listed b ts tagCountLength (keysAfter (length ts)) i (decoded-stands b ts d)))
+    rw (tag_list_gives b ts d) (ap gives (parts_listed b ts tag_count_length (keys_after (length ts)) i (decoded_stands b ts d)))
 
 -- ------------------------------------------------------------------ inserting
 
-few-set : (k v : Bytes) (ts : List Tag) (o : Option Bytes) → (o ≢ none) ⊎ (length ts < maxTags) → length ts ≤ maxTags
-    → length (setTag k v ts) ≡ cond (isSome o) (length ts) (length ts + 1) → length (setTag k v ts) ≤ maxTags
-few-set k v ts none (inl n) l s = absurd (n refl)
-few-set k v ts none (inr h) l s = omega arith
-few-set k v ts (some w) h l s = omega arith
+few_set : (k v : Bytes) (ts : List Tag) (o : Option Bytes) → (o ≢ none) ⊎ (length ts < max_tags) → length ts ≤ max_tags
+    → length (set_tag k v ts) ≡ cond (is_some o) (length ts) (length ts + 1) → length (set_tag k v ts) ≤ max_tags
+few_set k v ts none (inl n) l s = absurd (n refl)
+few_set k v ts none (inr h) l s = omega arith
+few_set k v ts (some w) h l s = omega arith
 
--- as `insertIn` and `removeIn` go on with the list and the key
-abbrev toInsert : Bytes → List Tag → Bytes → Given (List Tag)
-toInsert value ts k = judgedTags (leb (length value) maxValue) (setTag k value ts)
+-- as `insert_in` and `remove_in` go on with the list and the key
+abbrev to_insert : Bytes → List Tag → Bytes → Given (List Tag)
+to_insert value ts k = judged_tags (leb (length value) max_value) (set_tag k value ts)
 
-abbrev toRemove : ℕ → List Tag → Bytes → Given Removal
-toRemove room ts k = cond (fits (lookUp k ts) room) (gives (record { value = lookUp k ts; rest = removeTag k ts })) (refuses 17)
+abbrev to_remove : ℕ → List Tag → Bytes → Given Removal
+to_remove room ts k = cond (fits (look_up k ts) room) (gives (record { value = look_up k ts; rest = remove_tag k ts })) (refuses 17)
 
-accepted : (b key value : Bytes) (ts : List Tag) → decodeTags b ≡ some ts → fineKey key ≡ true → length value ≤ maxValue
-    → (lookUp (lower key) ts ≢ none) ⊎ (length ts < maxTags) → numberOf (insertIn b key value) ≡ 0
-unfolding insertIn
+accepted : (b key value : Bytes) (ts : List Tag) → decode_tags b ≡ some ts → fine_key key ≡ true → length value ≤ max_value
+    → (look_up (lower key) ts ≢ none) ⊎ (length ts < max_tags) → number_of (insert_in b key value) ≡ 0
+unfolding insert_in
 accepted b key value ts d e short room =
-    let v = decoded-valid b ts d in
+    let v = decoded_valid b ts d in
     let k = lower key in
-    let few = few-set k value ts (lookUp k ts) room v.count (length-set k value ts v.order) in
+    let few = few_set k value ts (look_up k ts) room v.count (length_set k value ts v.order) in
     rw (
-      with-key-gives b key (toInsert value) ts d e,
-      judged-gives (leb (length value) maxValue) (setTag k value ts) (le-leb (length value) maxValue short) few,
+      with_key_gives b key (to_insert value) ts d e,
+      judged_gives (leb (length value) max_value) (set_tag k value ts) (le-leb (length value) max_value short) few,
     )
 
-inserted : (b key value j : Bytes) → numberOf (insertIn b key value) ≡ 0 → fineKey j ≡ true
-    → valueIn (listWith (insertIn b key value) b) j ≡ cond (sameBytes (lower j) (lower key)) (gives (some value)) (valueIn b j)
-unfolding insertIn
+inserted : (b key value j : Bytes) → number_of (insert_in b key value) ≡ 0 → fine_key j ≡ true
+    → value_in (list_with (insert_in b key value) b) j ≡ cond (same_bytes (lower j) (lower key)) (gives (some value)) (value_in b j)
+unfolding insert_in
 inserted b key value j z e =
-    let a = with-key-accepted b key (toInsert value) z in
+    let a = with_key_accepted b key (to_insert value) z in
     let ts = a.tags in
     let k = lower key in
-    let us = setTag k value ts in
-    let (short, few) = judged-accepted (leb (length value) maxValue) us a.zero in
-    let valid = set-valid k value ts (decoded-valid b ts a.decoded) (lower-stored key a.fine) (leb-true (length value) maxValue short) few in
+    let us = set_tag k value ts in
+    let (short, few) = judged_accepted (leb (length value) max_value) us a.zero in
+    let valid = set_valid k value ts (decoded_valid b ts a.decoded) (lower_stored key a.fine) (leb-true (length value) max_value short) few in
     rw (
-      with-key-gives b key (toInsert value) ts a.decoded a.fine,
-      judged-gives (leb (length value) maxValue) us short few,
-      value-encoded us j valid e,
-      value-decoded b ts j a.decoded e,
+      with_key_gives b key (to_insert value) ts a.decoded a.fine,
+      judged_gives (leb (length value) max_value) us short few,
+      value_encoded us j valid e,
+      value_decoded b ts j a.decoded e,
     )
-    (changed-value (lower j) k (lookUp (lower j) us) (some value) (gives (lookUp (lower j) ts))
-    (λ d. rw d (set-same k value ts))
-    (λ n. ap gives (set-other (lower j) k value ts n)))
+    (changed_value (lower j) k (look_up (lower j) us) (some value) (gives (look_up (lower j) ts))
+    (λ d. rw d (set_same k value ts))
+    (λ n. ap gives (set_other (lower j) k value ts n)))
 
-removed : (b key : Bytes) (room : ℕ) (j : Bytes) → numberOf (removeIn b key room) ≡ 0 → fineKey j ≡ true
-    → valueIn (listWith (restGiven (removeIn b key room)) b) j ≡ cond (sameBytes (lower j) (lower key)) (gives none) (valueIn b j)
-unfolding removeIn
+removed : (b key : Bytes) (room : ℕ) (j : Bytes) → number_of (remove_in b key room) ≡ 0 → fine_key j ≡ true
+    → value_in (list_with (rest_given (remove_in b key room)) b) j ≡ cond (same_bytes (lower j) (lower key)) (gives none) (value_in b j)
+unfolding remove_in
 removed b key room j z e =
-    let a = with-key-accepted b key (toRemove room) z in
+    let a = with_key_accepted b key (to_remove room) z in
     let ts = a.tags in
     let k = lower key in
-    let us = removeTag k ts in
-    let v = decoded-valid b ts a.decoded in
-    let room_for = go (fits (lookUp k ts) room) (record { value = lookUp k ts; rest = us }) a.zero in
+    let us = remove_tag k ts in
+    let v = decoded_valid b ts a.decoded in
+    let room_for = go (fits (look_up k ts) room) (record { value = look_up k ts; rest = us }) a.zero in
     rw (
-      with-key-gives b key (toRemove room) ts a.decoded a.fine,
+      with_key_gives b key (to_remove room) ts a.decoded a.fine,
       room_for,
-      value-encoded us j (remove-valid k ts v) e,
-      value-decoded b ts j a.decoded e,
+      value_encoded us j (remove_valid k ts v) e,
+      value_decoded b ts j a.decoded e,
     )
-    (changed-value (lower j) k (lookUp (lower j) us) none (gives (lookUp (lower j) ts))
-    (λ d. rw d (remove-same k ts v.order))
-    (λ n. ap gives (remove-other (lower j) k ts n)))
+    (changed_value (lower j) k (look_up (lower j) us) none (gives (look_up (lower j) ts))
+    (λ d. rw d (remove_same k ts v.order))
+    (λ n. ap gives (remove_other (lower j) k ts n)))
   where
-    go : (t : Bool) (r : Removal) → numberOf (cond t (gives r) (refuses 17)) ≡ 0 → t ≡ true
+    go : (t : Bool) (r : Removal) → number_of (cond t (gives r) (refuses 17)) ≡ 0 → t ≡ true
     go true r z = refl
     go false r z = absurd (omega arith)
 
 -- ------------------------------------------------------------------ a block is told by what its keys give
 
-same : (b c : Bytes) (ts us : List Tag) → decodeTags b ≡ some ts → decodeTags c ≡ some us
-    → ((j : Bytes) → fineKey j ≡ true → valueIn b j ≡ valueIn c j) → b ≡ c
+same : (b c : Bytes) (ts us : List Tag) → decode_tags b ≡ some ts → decode_tags c ≡ some us
+    → ((j : Bytes) → fine_key j ≡ true → value_in b j ≡ value_in c j) → b ≡ c
 same b c ts us d e h =
-    let v = decoded-valid b ts d in
-    let w = decoded-valid c us e in
-    (tags-decoded b ts d).1
-    ∙ ap encodeTags (same_lists ts us v.order w.order (λ k. go v w k (storedKey k) refl))
-    ∙ sym (tags-decoded c us e).1
+    let v = decoded_valid b ts d in
+    let w = decoded_valid c us e in
+    (tags_decoded b ts d).1
+    ∙ ap encode_tags (same_lists ts us v.order w.order (λ k. go v w k (stored_key k) refl))
+    ∙ sym (tags_decoded c us e).1
   where
-    go : ValidTags ts → ValidTags us → (k : Bytes) (t : Bool) → storedKey k ≡ t → lookUp k ts ≡ lookUp k us
+    go : ValidTags ts → ValidTags us → (k : Bytes) (t : Bool) → stored_key k ≡ t → look_up k ts ≡ look_up k us
     go v w k true s =
-        let l = lower-same k s in
-        let f = stored-fine k s in
-        let x = value-decoded b ts k d f in
-        let y = value-decoded c us k e f in
+        let l = lower_same k s in
+        let f = stored_fine k s in
+        let x = value_decoded b ts k d f in
+        let y = value_decoded c us k e f in
         rw l at (given (sym x ∙ h k f ∙ y))
-    go v w k false s = look-unstored k ts s (valid-stored ts v) ∙ sym (look-unstored k us s (valid-stored us w))
+    go v w k false s = look_unstored k ts s (valid_stored ts v) ∙ sym (look_unstored k us s (valid_stored us w))
 
-pub tags-are-map : TagsAreMap
-tags-are-map = record {
+pub tags_are_map : TagsAreMap
+tags_are_map = record {
   got = got;
   listed = listed;
   accepted = accepted;
   inserted = inserted;
   removed = removed;
-  three-set = three-set;
+  three_set = three_set;
   same = same;
 }

@@ -9,90 +9,90 @@ use Prim.Native.Nat.{◌+◌, ◌≤◌}
 use native.Mathlib.Omega.{arith}
 use lib.ListN.{length}
 use borrow.Author.Tests.{leb-true}
-use Rattle.model.specs.Bytes.{Bytes, sameBytes}
-use Rattle.model.specs.Opening.{isSome}
+use Rattle.model.specs.Bytes.{Bytes, same_bytes}
+use Rattle.model.specs.Opening.{is_some}
 use Rattle.model.specs.Written.{fits}
 use Rattle.model.specs.Statements.{Ascending}
-use Rattle.model.specs.TagList.{Tag, compareTags, lookUp, setTag, setOrRemove, maxTags, maxValue, storedKey}
+use Rattle.model.specs.TagList.{Tag, compare_tags, look_up, set_tag, set_or_remove, max_tags, max_value, stored_key}
 use Rattle.model.specs.TagStatements.{ValidTags}
-use Rattle.text.proofs.Order.{sameBytes-true}
+use Rattle.text.proofs.Order.{same_bytes_true}
 use Rattle.tag_edits.proofs.Outcome.{differ}
-use Rattle.graph_tags.specs.Change.{removeAbsent, setPresent, added, gone}
-use Rattle.tag_list.proofs.Map.{set-same, set-other, set-kept, remove-same, remove-other, remove-kept}
-use Rattle.tag_list.proofs.Valid.{length-set, length-remove, set-valid, remove-valid}
+use Rattle.graph_tags.specs.Change.{remove_absent, set_present, added, gone}
+use Rattle.tag_list.proofs.Map.{set_same, set_other, set_kept, remove_same, remove_other, remove_kept}
+use Rattle.tag_list.proofs.Valid.{length_set, length_remove, set_valid, remove_valid}
 
 pub same_or_not : (j k : Bytes) → (j ≡ k) ⊎ (j ≢ k)
-same_or_not j k = go (sameBytes j k) refl
+same_or_not j k = go (same_bytes j k) refl
   where
-    go : (s : Bool) → sameBytes j k ≡ s → (j ≡ k) ⊎ (j ≢ k)
-    go true e = inl ((sameBytes-true j k).0 e)
+    go : (s : Bool) → same_bytes j k ≡ s → (j ≡ k) ⊎ (j ≢ k)
+    go true e = inl ((same_bytes_true j k).0 e)
     go false e = inr (differ j k e)
 
 module _ (k : Bytes) where
-  pub change-kept : (o : Option Bytes) (ts : List Tag) → Ascending compareTags ts → Ascending compareTags (setOrRemove k o ts)
-  change-kept none ts a = remove-kept k ts a
-  change-kept (some v) ts a = set-kept k v ts a
+  pub change_kept : (o : Option Bytes) (ts : List Tag) → Ascending compare_tags ts → Ascending compare_tags (set_or_remove k o ts)
+  change_kept none ts a = remove_kept k ts a
+  change_kept (some v) ts a = set_kept k v ts a
 
-  pub absent-kept : (o : Option Bytes) (ts : List Tag) → Ascending compareTags ts → Ascending compareTags (removeAbsent k o ts)
-  absent-kept none ts a = remove-kept k ts a
-  absent-kept (some v) ts a = a
+  pub absent_kept : (o : Option Bytes) (ts : List Tag) → Ascending compare_tags ts → Ascending compare_tags (remove_absent k o ts)
+  absent_kept none ts a = remove_kept k ts a
+  absent_kept (some v) ts a = a
 
-  pub present-kept : (o : Option Bytes) (ts : List Tag) → Ascending compareTags ts → Ascending compareTags (setPresent k o ts)
-  present-kept none ts a = a
-  present-kept (some v) ts a = set-kept k v ts a
+  pub present_kept : (o : Option Bytes) (ts : List Tag) → Ascending compare_tags ts → Ascending compare_tags (set_present k o ts)
+  present_kept none ts a = a
+  present_kept (some v) ts a = set_kept k v ts a
 
-  pub change-same : (o : Option Bytes) (ts : List Tag) → Ascending compareTags ts → lookUp k (setOrRemove k o ts) ≡ o
-  change-same none ts a = remove-same k ts a
-  change-same (some v) ts a = set-same k v ts
+  pub change_same : (o : Option Bytes) (ts : List Tag) → Ascending compare_tags ts → look_up k (set_or_remove k o ts) ≡ o
+  change_same none ts a = remove_same k ts a
+  change_same (some v) ts a = set_same k v ts
 
-  pub absent-same : (o : Option Bytes) (ts : List Tag) → Ascending compareTags ts → o ≡ none → lookUp k (removeAbsent k o ts) ≡ none
-  absent-same none ts a e = remove-same k ts a
-  absent-same (some v) ts a e = cc
+  pub absent_same : (o : Option Bytes) (ts : List Tag) → Ascending compare_tags ts → o ≡ none → look_up k (remove_absent k o ts) ≡ none
+  absent_same none ts a e = remove_same k ts a
+  absent_same (some v) ts a e = cc
 
-  pub present-same : (o : Option Bytes) (ts : List Tag) → (o ≡ none → lookUp k ts ≡ none) → lookUp k (setPresent k o ts) ≡ o
-  present-same none ts h = h refl
-  present-same (some v) ts h = set-same k v ts
+  pub present_same : (o : Option Bytes) (ts : List Tag) → (o ≡ none → look_up k ts ≡ none) → look_up k (set_present k o ts) ≡ o
+  present_same none ts h = h refl
+  present_same (some v) ts h = set_same k v ts
 
-  pub change-other : (j : Bytes) → j ≢ k → (o : Option Bytes) (ts : List Tag) → lookUp j (setOrRemove k o ts) ≡ lookUp j ts
-  change-other j n none ts = remove-other j k ts n
-  change-other j n (some v) ts = set-other j k v ts n
+  pub change_other : (j : Bytes) → j ≢ k → (o : Option Bytes) (ts : List Tag) → look_up j (set_or_remove k o ts) ≡ look_up j ts
+  change_other j n none ts = remove_other j k ts n
+  change_other j n (some v) ts = set_other j k v ts n
 
-  pub absent-other : (j : Bytes) → j ≢ k → (o : Option Bytes) (ts : List Tag) → lookUp j (removeAbsent k o ts) ≡ lookUp j ts
-  absent-other j n none ts = remove-other j k ts n
-  absent-other j n (some v) ts = refl
+  pub absent_other : (j : Bytes) → j ≢ k → (o : Option Bytes) (ts : List Tag) → look_up j (remove_absent k o ts) ≡ look_up j ts
+  absent_other j n none ts = remove_other j k ts n
+  absent_other j n (some v) ts = refl
 
-  pub present-other : (j : Bytes) → j ≢ k → (o : Option Bytes) (ts : List Tag) → lookUp j (setPresent k o ts) ≡ lookUp j ts
-  present-other j n none ts = refl
-  present-other j n (some v) ts = set-other j k v ts n
+  pub present_other : (j : Bytes) → j ≢ k → (o : Option Bytes) (ts : List Tag) → look_up j (set_present k o ts) ≡ look_up j ts
+  present_other j n none ts = refl
+  present_other j n (some v) ts = set_other j k v ts n
 
-  pub length-change : (o : Option Bytes) (ts : List Tag) → Ascending compareTags ts
-      → length (setOrRemove k o ts) + gone k o ts ≡ length ts + added k o ts
-  length-change none ts a = omega (arith, length-remove k ts a)
-  length-change (some v) ts a = go (isSome (lookUp k ts)) (length-set k v ts a)
+  pub length_change : (o : Option Bytes) (ts : List Tag) → Ascending compare_tags ts
+      → length (set_or_remove k o ts) + gone k o ts ≡ length ts + added k o ts
+  length_change none ts a = omega (arith, length_remove k ts a)
+  length_change (some v) ts a = go (is_some (look_up k ts)) (length_set k v ts a)
     where
-      go : (b : Bool) → length (setTag k v ts) ≡ cond b (length ts) (length ts + 1) → length (setTag k v ts) + 0 ≡ length ts + cond b 0 1
+      go : (b : Bool) → length (set_tag k v ts) ≡ cond b (length ts) (length ts + 1) → length (set_tag k v ts) + 0 ≡ length ts + cond b 0 1
       go true e = omega arith
       go false e = omega arith
 
   -- setting takes no tag away
-  pub present-longer : (o : Option Bytes) (ts : List Tag) → Ascending compareTags ts → length ts ≤ length (setPresent k o ts)
-  present-longer none ts a = omega arith
-  present-longer (some v) ts a = omega (arith, length-change (some v) ts a)
+  pub present_longer : (o : Option Bytes) (ts : List Tag) → Ascending compare_tags ts → length ts ≤ length (set_present k o ts)
+  present_longer none ts a = omega arith
+  present_longer (some v) ts a = omega (arith, length_change (some v) ts a)
 
-  pub absent-valid : (o : Option Bytes) (ts : List Tag) → ValidTags ts → ValidTags (removeAbsent k o ts)
-  absent-valid none ts h = remove-valid k ts h
-  absent-valid (some v) ts h = h
+  pub absent_valid : (o : Option Bytes) (ts : List Tag) → ValidTags ts → ValidTags (remove_absent k o ts)
+  absent_valid none ts h = remove_valid k ts h
+  absent_valid (some v) ts h = h
 
-  pub present-valid : (o : Option Bytes) (ts : List Tag) → ValidTags ts → storedKey k ≡ true → fits o maxValue ≡ true
-      → length (setPresent k o ts) ≤ maxTags → ValidTags (setPresent k o ts)
-  present-valid none ts h stored short few = h
-  present-valid (some v) ts h stored short few = set-valid k v ts h stored (leb-true (length v) maxValue short) few
+  pub present_valid : (o : Option Bytes) (ts : List Tag) → ValidTags ts → stored_key k ≡ true → fits o max_value ≡ true
+      → length (set_present k o ts) ≤ max_tags → ValidTags (set_present k o ts)
+  present_valid none ts h stored short few = h
+  present_valid (some v) ts h stored short few = set_valid k v ts h stored (leb-true (length v) max_value short) few
 
 -- what a key holds decides what is added and taken away
-pub added-same : (k : Bytes) (o : Option Bytes) (ts us : List Tag) → lookUp k ts ≡ lookUp k us → added k o ts ≡ added k o us
-added-same k none ts us e = refl
-added-same k (some v) ts us e = rw e
+pub added_same : (k : Bytes) (o : Option Bytes) (ts us : List Tag) → look_up k ts ≡ look_up k us → added k o ts ≡ added k o us
+added_same k none ts us e = refl
+added_same k (some v) ts us e = rw e
 
-pub gone_same : (k : Bytes) (o : Option Bytes) (ts us : List Tag) → lookUp k ts ≡ lookUp k us → gone k o ts ≡ gone k o us
+pub gone_same : (k : Bytes) (o : Option Bytes) (ts us : List Tag) → look_up k ts ≡ look_up k us → gone k o ts ≡ gone k o us
 gone_same k none ts us e = rw e
 gone_same k (some v) ts us e = refl

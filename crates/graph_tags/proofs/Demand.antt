@@ -12,18 +12,18 @@ use borrow.Author.Tests.{leb-true}
 use Rattle.model.specs.Bytes.{Bytes}
 use Rattle.model.specs.Record.{GraphName}
 use Rattle.model.specs.Layout.{decode}
-use Rattle.model.specs.Opening.{Given, refuses, gives, andThen, orRefuse, numberOf, opened, hasSize, recordIn}
-use Rattle.model.specs.Written.{tagsOf, fits, putValue}
-use Rattle.model.specs.TagList.{Tag, lookUp, setTag, removeTag, setGraphName, maxTags, maxValue, lower, fineKey, tagsLength, decodeTags}
-use Rattle.model.specs.TagOutcome.{Removal, tagList, readyKey, withKey, tagCountIn, tagAtIn, getIn, containsIn, judgedTags, shortTags, insertIn, setGraphNameIn, removeIn, restGiven, listWith, outputWithRemoved}
+use Rattle.model.specs.Opening.{Given, refuses, gives, and_then, or_refuse, number_of, opened, has_size, record_in}
+use Rattle.model.specs.Written.{tags_of, fits, put_value}
+use Rattle.model.specs.TagList.{Tag, look_up, set_tag, remove_tag, set_graph_name, max_tags, max_value, lower, fine_key, tags_length, decode_tags}
+use Rattle.model.specs.TagOutcome.{Removal, tag_list, ready_key, with_key, tag_count_in, tag_at_in, get_in, contains_in, judged_tags, short_tags, insert_in, set_graph_name_in, remove_in, rest_given, list_with, output_with_removed}
 use Rattle.model.specs.TagStatements.{ValidTags, AnswersWith, ChangesWith, RemovesWith, TagsDemand1}
-use Rattle.text.proofs.Put.{length-put}
-use Rattle.tag_list.proofs.Lowering.{lower-stored}
-use Rattle.tag_list.proofs.Valid.{set-valid, remove-valid}
-use Rattle.tag_list.proofs.Standing.{length-encoded}
-use Rattle.tag_list.proofs.Coding.{decoded-valid, decoded-length}
-use Rattle.graph_tags.proofs.ThreeTags.{three-valid}
-use Rattle.graph_tags.proofs.Numbers.{tag-numbers}
+use Rattle.text.proofs.Put.{length_put}
+use Rattle.tag_list.proofs.Lowering.{lower_stored}
+use Rattle.tag_list.proofs.Valid.{set_valid, remove_valid}
+use Rattle.tag_list.proofs.Standing.{length_encoded}
+use Rattle.tag_list.proofs.Coding.{decoded_valid, decoded_length}
+use Rattle.graph_tags.proofs.ThreeTags.{three_valid}
+use Rattle.graph_tags.proofs.Numbers.{tag_numbers}
 
 -- ------------------------------------------------------------------ refusals
 
@@ -38,7 +38,7 @@ Yields ns P (gives a) = P a
 
 -- a block b changed: it has the size of a tag list, and the new tags are one
 record Done (b : Bytes) (us : List Tag) : Type 0 where
-  long : length b ≡ tagsLength
+  long : length b ≡ tags_length
   valid : ValidTags us
 
 -- a tag removed: so for the tags that are left, and the value has room in the output
@@ -48,43 +48,43 @@ record Removed (b : Bytes) (room : ℕ) (r : Removal) : Type 0 where
 
 module _ (ns : List ℕ) where
   module _ {A : Type 0} (P : A → Type 0) where
-    list-yields : (b : Bytes) (f : List Tag → Given A) → Refusal ns 29 → ((ts : List Tag) → decodeTags b ≡ some ts → Yields ns P (f ts))
-        → Yields ns P (andThen (tagList b) f)
-    unfolding tagList
-    list-yields b f r h = go (decodeTags b) refl
+    list_yields : (b : Bytes) (f : List Tag → Given A) → Refusal ns 29 → ((ts : List Tag) → decode_tags b ≡ some ts → Yields ns P (f ts))
+        → Yields ns P (and_then (tag_list b) f)
+    unfolding tag_list
+    list_yields b f r h = go (decode_tags b) refl
       where
-        go : (o : Option (List Tag)) → decodeTags b ≡ o → Yields ns P (andThen (orRefuse 29 o) f)
+        go : (o : Option (List Tag)) → decode_tags b ≡ o → Yields ns P (and_then (or_refuse 29 o) f)
         go none d = r
         go (some ts) d = h ts d
 
-    key-yields : (b key : Bytes) (f : List Tag → Bytes → Given A) → Refusal ns 29 → Refusal ns 19
-        → ((ts : List Tag) → decodeTags b ≡ some ts → fineKey key ≡ true → Yields ns P (f ts (lower key))) → Yields ns P (withKey b key f)
-    unfolding readyKey
-    key-yields b key f r s h = list-yields b (λ ts. andThen (readyKey key) λ k. f ts k) r (λ ts d. go ts d (fineKey key) refl)
+    key_yields : (b key : Bytes) (f : List Tag → Bytes → Given A) → Refusal ns 29 → Refusal ns 19
+        → ((ts : List Tag) → decode_tags b ≡ some ts → fine_key key ≡ true → Yields ns P (f ts (lower key))) → Yields ns P (with_key b key f)
+    unfolding ready_key
+    key_yields b key f r s h = list_yields b (λ ts. and_then (ready_key key) λ k. f ts k) r (λ ts d. go ts d (fine_key key) refl)
       where
-        go : (ts : List Tag) → decodeTags b ≡ some ts → (t : Bool) → fineKey key ≡ t
-            → Yields ns P (andThen (cond t (gives (lower key)) (refuses 19)) λ k. f ts k)
+        go : (ts : List Tag) → decode_tags b ≡ some ts → (t : Bool) → fine_key key ≡ t
+            → Yields ns P (and_then (cond t (gives (lower key)) (refuses 19)) λ k. f ts k)
         go ts d true e = h ts d e
         go ts d false e = s
 
-    record-yields : (buffer : Bytes) (f : GraphName → Given A) → Refusal ns 15 → Refusal ns 16 → ((g : GraphName) → Yields ns P (f g))
-        → Yields ns P (andThen (opened (recordIn buffer)) f)
+    record_yields : (buffer : Bytes) (f : GraphName → Given A) → Refusal ns 15 → Refusal ns 16 → ((g : GraphName) → Yields ns P (f g))
+        → Yields ns P (and_then (opened (record_in buffer)) f)
     unfolding opened
-    record-yields buffer f r s h = go (hasSize buffer) (decode buffer)
+    record_yields buffer f r s h = go (has_size buffer) (decode buffer)
       where
-        go : (t : Bool) (o : Option GraphName) → Yields ns P (andThen (cond t (orRefuse 16 o) (refuses 15)) f)
+        go : (t : Bool) (o : Option GraphName) → Yields ns P (and_then (cond t (or_refuse 16 o) (refuses 15)) f)
         go false o = r
         go true none = s
         go true (some g) = h g
 
-  judged-yields : (P : List Tag → Type 0) (short : Bool) (us : List Tag) → Refusal ns 20 → Refusal ns 21
-      → (short ≡ true → length us ≤ maxTags → P us) → Yields ns P (judgedTags short us)
-  unfolding judgedTags
-  judged-yields P short us r s h = go short (leb (length us) maxTags) refl h
+  judged_yields : (P : List Tag → Type 0) (short : Bool) (us : List Tag) → Refusal ns 20 → Refusal ns 21
+      → (short ≡ true → length us ≤ max_tags → P us) → Yields ns P (judged_tags short us)
+  unfolding judged_tags
+  judged_yields P short us r s h = go short (leb (length us) max_tags) refl h
     where
-      go : (u t : Bool) → leb (length us) maxTags ≡ t → (u ≡ true → length us ≤ maxTags → P us)
+      go : (u t : Bool) → leb (length us) max_tags ≡ t → (u ≡ true → length us ≤ max_tags → P us)
           → Yields ns P (cond u (cond t (gives us) (refuses 21)) (refuses 20))
-      go true true e h = h refl (leb-true (length us) maxTags e)
+      go true true e h = h refl (leb-true (length us) max_tags e)
       go true false e h = s
       go false t e h = r
 
@@ -104,23 +104,23 @@ module _ (ns : List ℕ) where
     wrong = λ b n. wrong b n (answer b) (h b);
   }
     where
-      same : (b : Bytes) (a : Given (List Tag)) → numberOf a ≢ 0 → listWith a b ≡ b
+      same : (b : Bytes) (a : Given (List Tag)) → number_of a ≢ 0 → list_with a b ≡ b
       same b (refuses n) m = refl
       same b (gives us) m = absurd (m refl)
 
-      long : (b : Bytes) (a : Given (List Tag)) → Yields ns (Done b) a → length (listWith a b) ≡ length b
+      long : (b : Bytes) (a : Given (List Tag)) → Yields ns (Done b) a → length (list_with a b) ≡ length b
       long b (refuses n) y = refl
-      long b (gives us) y = length-encoded us y.valid ∙ sym y.long
+      long b (gives us) y = length_encoded us y.valid ∙ sym y.long
 
-      wrong : (b : Bytes) → length b ≢ tagsLength → (a : Given (List Tag)) → Yields ns (Done b) a → numberOf a ≢ 0
+      wrong : (b : Bytes) → length b ≢ tags_length → (a : Given (List Tag)) → Yields ns (Done b) a → number_of a ≢ 0
       wrong b n (refuses k) y = y.1
       wrong b n (gives us) y = absurd (n y.long)
 
   -- ------------------------------------------------------------------ removals
 
-  fits-yields : (b : Bytes) (room : ℕ) (value : Option Bytes) (us : List Tag) → Refusal ns 17 → Done b us
+  fits_yields : (b : Bytes) (room : ℕ) (value : Option Bytes) (us : List Tag) → Refusal ns 17 → Done b us
       → Yields ns (Removed b room) (cond (fits value room) (gives (record { value = value; rest = us })) (refuses 17))
-  fits-yields b room value us r d = go (fits value room) refl
+  fits_yields b room value us r d = go (fits value room) refl
     where
       go : (t : Bool) → fits value room ≡ t → Yields ns (Removed b room) (cond t (gives (record { value = value; rest = us })) (refuses 17))
       go true e = record { done = d; fitting = e }
@@ -128,27 +128,27 @@ module _ (ns : List ℕ) where
 
   removes : (answer : Bytes → ℕ → Given Removal) → ((b : Bytes) (room : ℕ) → Yields ns (Removed b room) (answer b room)) → RemovesWith (0 ∷ ns) answer
   removes answer h = record {
-    list = λ room. changes (λ b. restGiven (answer b room)) (λ b. left b room (answer b room) (h b room));
+    list = λ room. changes (λ b. rest_given (answer b room)) (λ b. left b room (answer b room) (h b room));
     numbers = λ b room. answers (Removed b room) (answer b room) (h b room);
     kept = λ b out. same out (answer b (length out));
     size = λ b out. long b out (answer b (length out)) (h b (length out));
   }
     where
-      left : (b : Bytes) (room : ℕ) (a : Given Removal) → Yields ns (Removed b room) a → Yields ns (Done b) (restGiven a)
+      left : (b : Bytes) (room : ℕ) (a : Given Removal) → Yields ns (Removed b room) a → Yields ns (Done b) (rest_given a)
       left b room (refuses n) y = y
       left b room (gives r) y = y.done
 
-      same : (out : Bytes) (a : Given Removal) → numberOf a ≢ 0 → outputWithRemoved a out ≡ out
+      same : (out : Bytes) (a : Given Removal) → number_of a ≢ 0 → output_with_removed a out ≡ out
       same out (refuses n) m = refl
       same out (gives r) m = absurd (m refl)
 
-      put-long : (out : Bytes) (value : Option Bytes) → fits value (length out) ≡ true → length (putValue value out) ≡ length out
-      put-long out none e = refl
-      put-long out (some t) e = let h = leb-true (length t) (length out) e in length-put out 0 t (omega arith)
+      put_long : (out : Bytes) (value : Option Bytes) → fits value (length out) ≡ true → length (put_value value out) ≡ length out
+      put_long out none e = refl
+      put_long out (some t) e = let h = leb-true (length t) (length out) e in length_put out 0 t (omega arith)
 
-      long : (b out : Bytes) (a : Given Removal) → Yields ns (Removed b (length out)) a → length (outputWithRemoved a out) ≡ length out
+      long : (b out : Bytes) (a : Given Removal) → Yields ns (Removed b (length out)) a → length (output_with_removed a out) ≡ length out
       long b out (refuses n) y = refl
-      long b out (gives r) y = put-long out r.value y.fitting
+      long b out (gives r) y = put_long out r.value y.fitting
 
 -- ------------------------------------------------------------------ the numbers of refusals, each found by its place
 
@@ -158,20 +158,20 @@ first = (Memᴰ.head refl, λ e. omega arith)
 next : {m n : ℕ} {ns : List ℕ} → Refusal ns n → Refusal (m ∷ ns) n
 next r = (Memᴰ.tail r.0, r.1)
 
-abbrev ofList : List ℕ
-ofList = 29 ∷ []
+abbrev of_list : List ℕ
+of_list = 29 ∷ []
 
-abbrev ofKey : List ℕ
-ofKey = 29 ∷ 19 ∷ []
+abbrev of_key : List ℕ
+of_key = 29 ∷ 19 ∷ []
 
-abbrev ofInsert : List ℕ
-ofInsert = 29 ∷ 19 ∷ 20 ∷ 21 ∷ []
+abbrev of_insert : List ℕ
+of_insert = 29 ∷ 19 ∷ 20 ∷ 21 ∷ []
 
-abbrev ofRemove : List ℕ
-ofRemove = 29 ∷ 19 ∷ 17 ∷ []
+abbrev of_remove : List ℕ
+of_remove = 29 ∷ 19 ∷ 17 ∷ []
 
-abbrev ofThree : List ℕ
-ofThree = 15 ∷ 16 ∷ 29 ∷ 20 ∷ 21 ∷ []
+abbrev of_three : List ℕ
+of_three = 15 ∷ 16 ∷ 29 ∷ 20 ∷ 21 ∷ []
 
 -- ------------------------------------------------------------------ every entry
 
@@ -179,52 +179,52 @@ ofThree = 15 ∷ 16 ∷ 29 ∷ 20 ∷ 21 ∷ []
 abbrev Any : {A : Type 0} → A → Type 0
 Any a = Unit {0}
 
-list-asked : {A : Type 0} (b : Bytes) (f : List Tag → A) → AnswersWith (0 ∷ ofList) (andThen (tagList b) λ ts. gives (f ts))
-list-asked b f = answers ofList Any _ (list-yields ofList Any b (λ ts. gives (f ts)) first (λ ts d. tt))
+list_asked : {A : Type 0} (b : Bytes) (f : List Tag → A) → AnswersWith (0 ∷ of_list) (and_then (tag_list b) λ ts. gives (f ts))
+list_asked b f = answers of_list Any _ (list_yields of_list Any b (λ ts. gives (f ts)) first (λ ts d. tt))
 
-key-asked : {A : Type 0} (b key : Bytes) (f : List Tag → Bytes → A) → AnswersWith (0 ∷ ofKey) (withKey b key λ ts k. gives (f ts k))
-key-asked b key f = answers ofKey Any _ (key-yields ofKey Any b key (λ ts k. gives (f ts k)) first (next first) (λ ts d e. tt))
+key_asked : {A : Type 0} (b key : Bytes) (f : List Tag → Bytes → A) → AnswersWith (0 ∷ of_key) (with_key b key λ ts k. gives (f ts k))
+key_asked b key f = answers of_key Any _ (key_yields of_key Any b key (λ ts k. gives (f ts k)) first (next first) (λ ts d e. tt))
 
-insert-yields : (b key value : Bytes) → Yields ofInsert (Done b) (insertIn b key value)
-unfolding insertIn
-insert-yields b key value =
-    let short = leb (length value) maxValue in
+insert_yields : (b key value : Bytes) → Yields of_insert (Done b) (insert_in b key value)
+unfolding insert_in
+insert_yields b key value =
+    let short = leb (length value) max_value in
     let k = lower key in
-    key-yields ofInsert (Done b) b key (λ ts j. judgedTags short (setTag j value ts)) first (next first) (λ ts d e.
-    judged-yields ofInsert (Done b) short (setTag k value ts) (next (next first)) (next (next (next first))) (λ s few.
+    key_yields of_insert (Done b) b key (λ ts j. judged_tags short (set_tag j value ts)) first (next first) (λ ts d e.
+    judged_yields of_insert (Done b) short (set_tag k value ts) (next (next first)) (next (next (next first))) (λ s few.
     record {
-      long = decoded-length b ts d;
-      valid = set-valid k value ts (decoded-valid b ts d) (lower-stored key e) (leb-true (length value) maxValue s) few;
+      long = decoded_length b ts d;
+      valid = set_valid k value ts (decoded_valid b ts d) (lower_stored key e) (leb-true (length value) max_value s) few;
     }))
 
-remove-yields : (b key : Bytes) (room : ℕ) → Yields ofRemove (Removed b room) (removeIn b key room)
-unfolding removeIn
-remove-yields b key room =
+remove_yields : (b key : Bytes) (room : ℕ) → Yields of_remove (Removed b room) (remove_in b key room)
+unfolding remove_in
+remove_yields b key room =
     let k = lower key in
-    key-yields ofRemove (Removed b room) b key
-    (λ ts j. cond (fits (lookUp j ts) room) (gives (record { value = lookUp j ts; rest = removeTag j ts })) (refuses 17))
+    key_yields of_remove (Removed b room) b key
+    (λ ts j. cond (fits (look_up j ts) room) (gives (record { value = look_up j ts; rest = remove_tag j ts })) (refuses 17))
     first (next first) (λ ts d e.
-    fits-yields ofRemove b room (lookUp k ts) (removeTag k ts) (next (next first))
-    (record { long = decoded-length b ts d; valid = remove-valid k ts (decoded-valid b ts d) }))
+    fits_yields of_remove b room (look_up k ts) (remove_tag k ts) (next (next first))
+    (record { long = decoded_length b ts d; valid = remove_valid k ts (decoded_valid b ts d) }))
 
-three-yields : (b buffer : Bytes) → Yields ofThree (Done b) (setGraphNameIn b buffer)
-unfolding setGraphNameIn
-three-yields b buffer =
-    record-yields ofThree (Done b) buffer (λ g. andThen (tagList b) λ ts. judgedTags (shortTags (tagsOf g)) (setGraphName g ts)) first (next first) (λ g.
-    list-yields ofThree (Done b) b (λ ts. judgedTags (shortTags (tagsOf g)) (setGraphName g ts)) (next (next first)) (λ ts d.
-    judged-yields ofThree (Done b) (shortTags (tagsOf g)) (setGraphName g ts) (next (next (next first))) (next (next (next (next first)))) (λ short few.
-    let v = decoded-valid b ts d in
-    record { long = decoded-length b ts d; valid = three-valid g ts v.order v short few })))
+three_yields : (b buffer : Bytes) → Yields of_three (Done b) (set_graph_name_in b buffer)
+unfolding set_graph_name_in
+three_yields b buffer =
+    record_yields of_three (Done b) buffer (λ g. and_then (tag_list b) λ ts. judged_tags (short_tags (tags_of g)) (set_graph_name g ts)) first (next first) (λ g.
+    list_yields of_three (Done b) b (λ ts. judged_tags (short_tags (tags_of g)) (set_graph_name g ts)) (next (next first)) (λ ts d.
+    judged_yields of_three (Done b) (short_tags (tags_of g)) (set_graph_name g ts) (next (next (next first))) (next (next (next (next first)))) (λ short few.
+    let v = decoded_valid b ts d in
+    record { long = decoded_length b ts d; valid = three_valid g ts v.order v short few })))
 
-pub tags-demand1 : TagsDemand1
-unfolding tagCountIn tagAtIn getIn containsIn
-tags-demand1 = record {
-  counts = λ b. list-asked b _;
-  at = λ b i. list-asked b _;
-  get = λ b key. key-asked b key _;
-  contains_key = λ b key. key-asked b key _;
-  insert = λ key value. changes ofInsert _ (λ b. insert-yields b key value);
-  remove = λ key. removes ofRemove _ (λ b room. remove-yields b key room);
-  set-graph-name = λ buffer. changes ofThree _ (λ b. three-yields b buffer);
-  situations = tag-numbers;
+pub tags_demand1 : TagsDemand1
+unfolding tag_count_in tag_at_in get_in contains_in
+tags_demand1 = record {
+  counts = λ b. list_asked b _;
+  at = λ b i. list_asked b _;
+  get = λ b key. key_asked b key _;
+  contains_key = λ b key. key_asked b key _;
+  insert = λ key value. changes of_insert _ (λ b. insert_yields b key value);
+  remove = λ key. removes of_remove _ (λ b room. remove_yields b key room);
+  set_graph_name_lem = λ buffer. changes of_three _ (λ b. three_yields b buffer);
+  situations = tag_numbers;
 }

@@ -12,204 +12,204 @@ use lib.Dec.{leb}
 use borrow.Author.Tests.{leb-true, leb-false, le-leb, lt-leb, eqb-true, eqb-false}
 use Rattle.model.specs.Bytes.{Bytes}
 use Rattle.model.specs.Record.{GraphName}
-use Rattle.model.specs.Layout.{recordLength, decode}
-use Rattle.model.specs.Opening.{Given, refuses, gives, andThen, orRefuse, numberOf, isSome, opened, hasSize, recordIn}
-use Rattle.model.specs.Written.{tagsOf, fits}
-use Rattle.model.specs.TagList.{Tag, lookUp, setTag, removeTag, setGraphName, maxTags, maxValue, lower, fineKey, decodeTags}
-use Rattle.model.specs.TagOutcome.{Removal, tagList, readyKey, withKey, tagCountIn, tagAtIn, getIn, containsIn, valueIn, judgedTags, shortTags, insertIn, setGraphNameIn, removeIn}
+use Rattle.model.specs.Layout.{record_length, decode}
+use Rattle.model.specs.Opening.{Given, refuses, gives, and_then, or_refuse, number_of, is_some, opened, has_size, record_in}
+use Rattle.model.specs.Written.{tags_of, fits}
+use Rattle.model.specs.TagList.{Tag, look_up, set_tag, remove_tag, set_graph_name, max_tags, max_value, lower, fine_key, decode_tags}
+use Rattle.model.specs.TagOutcome.{Removal, tag_list, ready_key, with_key, tag_count_in, tag_at_in, get_in, contains_in, value_in, judged_tags, short_tags, insert_in, set_graph_name_in, remove_in}
 use Rattle.model.specs.TagStatements.{KeyNumbers, SetNumbers, TagNumbers}
-use Rattle.tag_list.proofs.Valid.{length-set}
-use Rattle.tag_list.proofs.Coding.{decoded-valid}
-use Rattle.tag_edits.proofs.Outcome.{Accepted, with-key-accepted, value-decoded}
+use Rattle.tag_list.proofs.Valid.{length_set}
+use Rattle.tag_list.proofs.Coding.{decoded_valid}
+use Rattle.tag_edits.proofs.Outcome.{Accepted, with_key_accepted, value_decoded}
 
 -- ------------------------------------------------------------------ the list
 
 -- a number that is not of a record, of a list or of a key
 record Own (n : ℕ) : Type 0 where
-  not-size : n ≢ 15
-  not-contents : n ≢ 16
+  not_size : n ≢ 15
+  not_contents : n ≢ 16
   not_key : n ≢ 19
-  not-list : n ≢ 29
+  not_list : n ≢ 29
 
-some-not : {A : Type 0} (a : A) → some a ≢ none
-some-not a e = let z : ◌≡◌ {A = ℕ} 0 1 = cc in omega arith
+some_not : {A : Type 0} (a : A) → some a ≢ none
+some_not a e = let z : ◌≡◌ {A = ℕ} 0 1 = cc in omega arith
 
-list-refused : {A : Type 0} (b : Bytes) (f : List Tag → Given A) → ((ts : List Tag) → numberOf (f ts) ≢ 29)
-    → numberOf (andThen (tagList b) f) ≡ 29 ↔ decodeTags b ≡ none
-unfolding tagList
-list-refused b f h = go (decodeTags b)
+list_refused : {A : Type 0} (b : Bytes) (f : List Tag → Given A) → ((ts : List Tag) → number_of (f ts) ≢ 29)
+    → number_of (and_then (tag_list b) f) ≡ 29 ↔ decode_tags b ≡ none
+unfolding tag_list
+list_refused b f h = go (decode_tags b)
   where
-    go : (o : Option (List Tag)) → numberOf (andThen (orRefuse 29 o) f) ≡ 29 ↔ o ≡ none
+    go : (o : Option (List Tag)) → number_of (and_then (or_refuse 29 o) f) ≡ 29 ↔ o ≡ none
     go none = (λ e. refl, λ e. refl)
-    go (some ts) = (λ e. absurd (h ts e), λ e. absurd (some-not ts e))
+    go (some ts) = (λ e. absurd (h ts e), λ e. absurd (some_not ts e))
 
-count-number : (b : Bytes) → numberOf (tagCountIn b) ≡ 29 ↔ decodeTags b ≡ none
-unfolding tagCountIn
-count-number b = list-refused b _ (λ ts e. omega arith)
+count_number : (b : Bytes) → number_of (tag_count_in b) ≡ 29 ↔ decode_tags b ≡ none
+unfolding tag_count_in
+count_number b = list_refused b _ (λ ts e. omega arith)
 
-at-number : (b : Bytes) (i : ℕ) → numberOf (tagAtIn b i) ≡ 29 ↔ decodeTags b ≡ none
-unfolding tagAtIn
-at-number b i = list-refused b _ (λ ts e. omega arith)
+at_number : (b : Bytes) (i : ℕ) → number_of (tag_at_in b i) ≡ 29 ↔ decode_tags b ≡ none
+unfolding tag_at_in
+at_number b i = list_refused b _ (λ ts e. omega arith)
 
 -- ------------------------------------------------------------------ the list and the key
 
 -- what an entry with a key gives, by the list, if any, and whether the key is fine
 abbrev keyed : {A : Type 0} → Bytes → (List Tag → Bytes → Given A) → Option (List Tag) → Bool → Given A
-keyed key f o t = andThen (orRefuse 29 o) λ ts. andThen (cond t (gives (lower key)) (refuses 19)) λ k. f ts k
+keyed key f o t = and_then (or_refuse 29 o) λ ts. and_then (cond t (gives (lower key)) (refuses 19)) λ k. f ts k
 
 module _ {A : Type 0} (b key : Bytes) (f : List Tag → Bytes → Given A) where
   -- the list and the key are refused by every entry in the same way
-  keyed-refused : numberOf (valueIn b key) ≢ 0 → numberOf (withKey b key f) ≡ numberOf (valueIn b key)
-  unfolding valueIn tagList readyKey
-  keyed-refused = go (decodeTags b) (fineKey key)
+  keyed_refused : number_of (value_in b key) ≢ 0 → number_of (with_key b key f) ≡ number_of (value_in b key)
+  unfolding value_in tag_list ready_key
+  keyed_refused = go (decode_tags b) (fine_key key)
     where
       go : (o : Option (List Tag)) (t : Bool)
-          → numberOf (keyed key (λ ts k. gives (lookUp k ts)) o t) ≢ 0 → numberOf (keyed key f o t) ≡ numberOf (keyed key (λ ts k. gives (lookUp k ts)) o t)
+          → number_of (keyed key (λ ts k. gives (look_up k ts)) o t) ≢ 0 → number_of (keyed key f o t) ≡ number_of (keyed key (λ ts k. gives (look_up k ts)) o t)
       go none t m = refl
       go (some ts) false m = refl
       go (some ts) true m = absurd (m refl)
 
-  module _ (own : (ts : List Tag) (k : Bytes) → Own (numberOf (f ts k))) where
-    keyed-list : numberOf (withKey b key f) ≡ 29 ↔ decodeTags b ≡ none
-    unfolding readyKey
-    keyed-list = list-refused b (λ ts. andThen (readyKey key) λ k. f ts k) (λ ts. go ts (fineKey key))
+  module _ (own : (ts : List Tag) (k : Bytes) → Own (number_of (f ts k))) where
+    keyed_list : number_of (with_key b key f) ≡ 29 ↔ decode_tags b ≡ none
+    unfolding ready_key
+    keyed_list = list_refused b (λ ts. and_then (ready_key key) λ k. f ts k) (λ ts. go ts (fine_key key))
       where
-        go : (ts : List Tag) (t : Bool) → numberOf (andThen (cond t (gives (lower key)) (refuses 19)) λ k. f ts k) ≢ 29
-        go ts true = (own ts (lower key)).not-list
+        go : (ts : List Tag) (t : Bool) → number_of (and_then (cond t (gives (lower key)) (refuses 19)) λ k. f ts k) ≢ 29
+        go ts true = (own ts (lower key)).not_list
         go ts false = λ e. omega arith
 
-    keyed-key : numberOf (withKey b key f) ≡ 19 ↔ (decodeTags b ≢ none) × (fineKey key ≡ false)
-    unfolding tagList readyKey
-    keyed-key = go (decodeTags b) (fineKey key)
+    keyed_key : number_of (with_key b key f) ≡ 19 ↔ (decode_tags b ≢ none) × (fine_key key ≡ false)
+    unfolding tag_list ready_key
+    keyed_key = go (decode_tags b) (fine_key key)
       where
-        go : (o : Option (List Tag)) (t : Bool) → numberOf (keyed key f o t) ≡ 19 ↔ (o ≢ none) × (t ≡ false)
+        go : (o : Option (List Tag)) (t : Bool) → number_of (keyed key f o t) ≡ 19 ↔ (o ≢ none) × (t ≡ false)
         go none t = (λ e. absurd (omega arith), λ p. absurd (p.0 refl))
         go (some ts) true = (λ e. absurd ((own ts (lower key)).not_key e), λ p. let d = p.1 in cc)
-        go (some ts) false = (λ e. (some-not ts, refl), λ p. refl)
+        go (some ts) false = (λ e. (some_not ts, refl), λ p. refl)
 
-    key-numbers : KeyNumbers b key (withKey b key f)
-    key-numbers = record { refused = keyed-refused; list = keyed-list; key = keyed-key }
+    key_numbers : KeyNumbers b key (with_key b key f)
+    key_numbers = record { refused = keyed_refused; list = keyed_list; key = keyed_key }
 
 module _ (b key : Bytes) where
-  value-numbers : KeyNumbers b key (valueIn b key)
-  unfolding valueIn
-  value-numbers = key-numbers b key (λ ts k. gives (lookUp k ts)) (λ ts k. omega arith)
+  value_numbers : KeyNumbers b key (value_in b key)
+  unfolding value_in
+  value_numbers = key_numbers b key (λ ts k. gives (look_up k ts)) (λ ts k. omega arith)
 
   -- a question is refused for nothing else
-  asked-number : {A : Type 0} (f : List Tag → Bytes → A) → numberOf (withKey b key λ ts k. gives (f ts k)) ≡ numberOf (valueIn b key)
-  unfolding valueIn tagList readyKey
-  asked-number f = go (decodeTags b) (fineKey key)
+  asked_number : {A : Type 0} (f : List Tag → Bytes → A) → number_of (with_key b key λ ts k. gives (f ts k)) ≡ number_of (value_in b key)
+  unfolding value_in tag_list ready_key
+  asked_number f = go (decode_tags b) (fine_key key)
     where
       go : (o : Option (List Tag)) (t : Bool)
-          → numberOf (keyed key (λ ts k. gives (f ts k)) o t) ≡ numberOf (keyed key (λ ts k. gives (lookUp k ts)) o t)
+          → number_of (keyed key (λ ts k. gives (f ts k)) o t) ≡ number_of (keyed key (λ ts k. gives (look_up k ts)) o t)
       go none t = refl
       go (some ts) false = refl
       go (some ts) true = refl
 
-  get-number : numberOf (getIn b key) ≡ numberOf (valueIn b key)
-  unfolding getIn
-  get-number = asked-number _
+  get_number : number_of (get_in b key) ≡ number_of (value_in b key)
+  unfolding get_in
+  get_number = asked_number _
 
-  contains-number : numberOf (containsIn b key) ≡ numberOf (valueIn b key)
-  unfolding containsIn
-  contains-number = asked-number _
+  contains_number : number_of (contains_in b key) ≡ number_of (value_in b key)
+  unfolding contains_in
+  contains_number = asked_number _
 
   -- an answer has a list and a fine key
-  value-accepted : numberOf (valueIn b key) ≡ 0 → Accepted b key (λ ts k. gives (lookUp k ts))
-  unfolding valueIn
-  value-accepted z = with-key-accepted b key (λ ts k. gives (lookUp k ts)) z
+  value_accepted : number_of (value_in b key) ≡ 0 → Accepted b key (λ ts k. gives (look_up k ts))
+  unfolding value_in
+  value_accepted z = with_key_accepted b key (λ ts k. gives (look_up k ts)) z
 
   -- what is given then
-  module _ (ts : List Tag) (d : decodeTags b ≡ some ts) (e : fineKey key ≡ true) where
-    insert-judged : (value : Bytes) → insertIn b key value ≡ judgedTags (leb (length value) maxValue) (setTag (lower key) value ts)
-    unfolding insertIn tagList readyKey
-    insert-judged value = rw (d, e)
+  module _ (ts : List Tag) (d : decode_tags b ≡ some ts) (e : fine_key key ≡ true) where
+    insert_judged : (value : Bytes) → insert_in b key value ≡ judged_tags (leb (length value) max_value) (set_tag (lower key) value ts)
+    unfolding insert_in tag_list ready_key
+    insert_judged value = rw (d, e)
 
-    remove-fits : (room : ℕ)
-        → removeIn b key room
-        ≡ cond (fits (lookUp (lower key) ts) room) (gives (record { value = lookUp (lower key) ts; rest = removeTag (lower key) ts })) (refuses 17)
-    unfolding removeIn tagList readyKey
-    remove-fits room = rw (d, e)
+    remove_fits : (room : ℕ)
+        → remove_in b key room
+        ≡ cond (fits (look_up (lower key) ts) room) (gives (record { value = look_up (lower key) ts; rest = remove_tag (lower key) ts })) (refuses 17)
+    unfolding remove_in tag_list ready_key
+    remove_fits room = rw (d, e)
 
 -- ------------------------------------------------------------------ insert and remove
 
 -- a list that is judged gives 0, 20 or 21
-judged-own : (short : Bool) (us : List Tag) → Own (numberOf (judgedTags short us))
-unfolding judgedTags
-judged-own short us = go short (leb (length us) maxTags)
+judged_own : (short : Bool) (us : List Tag) → Own (number_of (judged_tags short us))
+unfolding judged_tags
+judged_own short us = go short (leb (length us) max_tags)
   where
-    go : (s t : Bool) → Own (numberOf (cond s (cond t (gives us) (refuses 21)) (refuses 20)))
+    go : (s t : Bool) → Own (number_of (cond s (cond t (gives us) (refuses 21)) (refuses 20)))
     go true true = omega arith
     go true false = omega arith
     go false t = omega arith
 
-insert-numbers : (b key value : Bytes) → KeyNumbers b key (insertIn b key value)
-unfolding insertIn
-insert-numbers b key value = key-numbers b key _ (λ ts k. judged-own (leb (length value) maxValue) (setTag k value ts))
+insert_numbers : (b key value : Bytes) → KeyNumbers b key (insert_in b key value)
+unfolding insert_in
+insert_numbers b key value = key_numbers b key _ (λ ts k. judged_own (leb (length value) max_value) (set_tag k value ts))
 
-remove-numbers : (b key : Bytes) (room : ℕ) → KeyNumbers b key (removeIn b key room)
-unfolding removeIn
-remove-numbers b key room =
-    key-numbers b key _ (λ ts k. go (record { value = lookUp k ts; rest = removeTag k ts }) (fits (lookUp k ts) room))
+remove_numbers : (b key : Bytes) (room : ℕ) → KeyNumbers b key (remove_in b key room)
+unfolding remove_in
+remove_numbers b key room =
+    key_numbers b key _ (λ ts k. go (record { value = look_up k ts; rest = remove_tag k ts }) (fits (look_up k ts) room))
   where
-    go : (r : Removal) (t : Bool) → Own (numberOf (cond t (gives r) (refuses 17)))
+    go : (r : Removal) (t : Bool) → Own (number_of (cond t (gives r) (refuses 17)))
     go r true = omega arith
     go r false = omega arith
 
 -- ------------------------------------------------------------------ the value, the list and the output
 
-short-number : (short : Bool) (us : List Tag) → numberOf (judgedTags short us) ≡ 20 ↔ short ≡ false
-unfolding judgedTags
-short-number short us = go short (leb (length us) maxTags)
+short_number : (short : Bool) (us : List Tag) → number_of (judged_tags short us) ≡ 20 ↔ short ≡ false
+unfolding judged_tags
+short_number short us = go short (leb (length us) max_tags)
   where
-    go : (s t : Bool) → numberOf (cond s (cond t (gives us) (refuses 21)) (refuses 20)) ≡ 20 ↔ s ≡ false
+    go : (s t : Bool) → number_of (cond s (cond t (gives us) (refuses 21)) (refuses 20)) ≡ 20 ↔ s ≡ false
     go true true = (λ e. absurd (omega arith), λ e. cc)
     go true false = (λ e. absurd (omega arith), λ e. cc)
     go false t = (λ e. refl, λ e. refl)
 
-long-number : (n : ℕ) (us : List Tag) → numberOf (judgedTags (leb n maxValue) us) ≡ 20 ↔ maxValue < n
-long-number n us =
-    let s = short-number (leb n maxValue) us in
-    (λ z. leb-false n maxValue (s.0 z), λ l. s.1 (lt-leb n maxValue l))
+long_number : (n : ℕ) (us : List Tag) → number_of (judged_tags (leb n max_value) us) ≡ 20 ↔ max_value < n
+long_number n us =
+    let s = short_number (leb n max_value) us in
+    (λ z. leb-false n max_value (s.0 z), λ l. s.1 (lt-leb n max_value l))
 
-many-number : (us : List Tag) → numberOf (judgedTags true us) ≡ 21 ↔ maxTags < length us
-unfolding judgedTags
-many-number us = go (leb (length us) maxTags) refl
+many_number : (us : List Tag) → number_of (judged_tags true us) ≡ 21 ↔ max_tags < length us
+unfolding judged_tags
+many_number us = go (leb (length us) max_tags) refl
   where
-    go : (t : Bool) → leb (length us) maxTags ≡ t → numberOf (cond t (gives us) (refuses 21)) ≡ 21 ↔ maxTags < length us
-    go true e = let h = leb-true (length us) maxTags e in (λ z. absurd (omega arith), λ l. absurd (omega arith))
-    go false e = (λ z. leb-false (length us) maxTags e, λ l. refl)
+    go : (t : Bool) → leb (length us) max_tags ≡ t → number_of (cond t (gives us) (refuses 21)) ≡ 21 ↔ max_tags < length us
+    go true e = let h = leb-true (length us) max_tags e in (λ z. absurd (omega arith), λ l. absurd (omega arith))
+    go false e = (λ z. leb-false (length us) max_tags e, λ l. refl)
 
-value-number : (b key value : Bytes) → numberOf (valueIn b key) ≡ 0 → numberOf (insertIn b key value) ≡ 20 ↔ maxValue < length value
-value-number b key value z =
-    let a = value-accepted b key z in
-    rw (insert-judged b key a.tags a.decoded a.fine value) (long-number (length value) (setTag (lower key) value a.tags))
+value_number : (b key value : Bytes) → number_of (value_in b key) ≡ 0 → number_of (insert_in b key value) ≡ 20 ↔ max_value < length value
+value_number b key value z =
+    let a = value_accepted b key z in
+    rw (insert_judged b key a.tags a.decoded a.fine value) (long_number (length value) (set_tag (lower key) value a.tags))
 
 -- a new key is one too many exactly if the list is full
-full-number : (b key value : Bytes) (ts : List Tag) → decodeTags b ≡ some ts → fineKey key ≡ true → length value ≤ maxValue
-    → numberOf (insertIn b key value) ≡ 21 ↔ (lookUp (lower key) ts ≡ none) × (length ts ≡ maxTags)
-full-number b key value ts d e short =
-    let v = decoded-valid b ts d in
-    let us = setTag (lower key) value ts in
-    let m = many-number us in
-    let g = go (lookUp (lower key) ts) us v.count (length-set (lower key) value ts v.order) in
-    rw (insert-judged b key ts d e value, le-leb (length value) maxValue short) (λ z. g.0 (m.0 z), λ p. m.1 (g.1 p))
+full_number : (b key value : Bytes) (ts : List Tag) → decode_tags b ≡ some ts → fine_key key ≡ true → length value ≤ max_value
+    → number_of (insert_in b key value) ≡ 21 ↔ (look_up (lower key) ts ≡ none) × (length ts ≡ max_tags)
+full_number b key value ts d e short =
+    let v = decoded_valid b ts d in
+    let us = set_tag (lower key) value ts in
+    let m = many_number us in
+    let g = go (look_up (lower key) ts) us v.count (length_set (lower key) value ts v.order) in
+    rw (insert_judged b key ts d e value, le-leb (length value) max_value short) (λ z. g.0 (m.0 z), λ p. m.1 (g.1 p))
   where
-    go : (o : Option Bytes) (us : List Tag) → length ts ≤ maxTags → length us ≡ cond (isSome o) (length ts) (length ts + 1)
-        → maxTags < length us ↔ (o ≡ none) × (length ts ≡ maxTags)
+    go : (o : Option Bytes) (us : List Tag) → length ts ≤ max_tags → length us ≡ cond (is_some o) (length ts) (length ts + 1)
+        → max_tags < length us ↔ (o ≡ none) × (length ts ≡ max_tags)
     go none us l s = (λ h. (refl, omega arith), λ p. omega arith)
     go (some w) us l s = (λ h. absurd (omega arith), λ p. let x = p.0 in let z : ◌≡◌ {A = ℕ} 0 1 = cc in absurd (omega arith))
 
-output-number : (b key : Bytes) (room : ℕ) → numberOf (valueIn b key) ≡ 0
-    → numberOf (removeIn b key room) ≡ 17 ↔ ((v : Bytes) × (valueIn b key ≡ gives (some v)) × (room < length v))
-output-number b key room z =
-    let a = value-accepted b key z in
+output_number : (b key : Bytes) (room : ℕ) → number_of (value_in b key) ≡ 0
+    → number_of (remove_in b key room) ≡ 17 ↔ ((v : Bytes) × (value_in b key ≡ gives (some v)) × (room < length v))
+output_number b key room z =
+    let a = value_accepted b key z in
     let ts = a.tags in
     let k = lower key in
-    rw (remove-fits b key ts a.decoded a.fine room, value-decoded b ts key a.decoded a.fine)
-    (go (lookUp k ts) (record { value = lookUp k ts; rest = removeTag k ts }))
+    rw (remove_fits b key ts a.decoded a.fine room, value_decoded b ts key a.decoded a.fine)
+    (go (look_up k ts) (record { value = look_up k ts; rest = remove_tag k ts }))
   where
-    go : (o : Option Bytes) (r : Removal) → numberOf (cond (fits o room) (gives r) (refuses 17)) ≡ 17 ↔ ((v : Bytes) × (gives o ≡ gives (some v)) × (room < length v))
+    go : (o : Option Bytes) (r : Removal) → number_of (cond (fits o room) (gives r) (refuses 17)) ≡ 17 ↔ ((v : Bytes) × (gives o ≡ gives (some v)) × (room < length v))
     go none r = (λ e. absurd (omega arith), λ p. let x = p.1 in let z : ◌≡◌ {A = ℕ} 0 1 = cc in absurd (omega arith))
     go (some w) r = cut (leb (length w) room) refl
       where
@@ -217,7 +217,7 @@ output-number b key room z =
         same v e = cc
 
         cut : (t : Bool) → leb (length w) room ≡ t
-            → numberOf (cond t (gives r) (refuses 17)) ≡ 17 ↔ ((v : Bytes) × (gives (some w) ≡ gives (some v)) × (room < length v))
+            → number_of (cond t (gives r) (refuses 17)) ≡ 17 ↔ ((v : Bytes) × (gives (some w) ≡ gives (some v)) × (room < length v))
         cut true e =
             let h = leb-true (length w) room e in
             (λ z. absurd (omega arith), λ p. absurd (omega (arith, p.2, ap length (same p.0 p.1))))
@@ -226,95 +226,95 @@ output-number b key room z =
 -- ------------------------------------------------------------------ set_graph_name
 
 module _ {A : Type 0} (buffer : Bytes) (f : GraphName → Given A) where
-  record-refused : numberOf (opened (recordIn buffer)) ≢ 0 → numberOf (andThen (opened (recordIn buffer)) f) ≡ numberOf (opened (recordIn buffer))
-  record-refused = go (opened (recordIn buffer))
+  record_refused : number_of (opened (record_in buffer)) ≢ 0 → number_of (and_then (opened (record_in buffer)) f) ≡ number_of (opened (record_in buffer))
+  record_refused = go (opened (record_in buffer))
     where
-      go : (o : Given GraphName) → numberOf o ≢ 0 → numberOf (andThen o f) ≡ numberOf o
+      go : (o : Given GraphName) → number_of o ≢ 0 → number_of (and_then o f) ≡ number_of o
       go (refuses n) m = refl
       go (gives g) m = absurd (m refl)
 
-  record-size : ((g : GraphName) → numberOf (f g) ≢ 15) → numberOf (andThen (opened (recordIn buffer)) f) ≡ 15 ↔ length buffer ≢ recordLength
+  record_size : ((g : GraphName) → number_of (f g) ≢ 15) → number_of (and_then (opened (record_in buffer)) f) ≡ 15 ↔ length buffer ≢ record_length
   unfolding opened
-  record-size h = go (hasSize buffer) refl (decode buffer)
+  record_size h = go (has_size buffer) refl (decode buffer)
     where
-      go : (t : Bool) → hasSize buffer ≡ t → (o : Option GraphName)
-          → numberOf (andThen (cond t (orRefuse 16 o) (refuses 15)) f) ≡ 15 ↔ length buffer ≢ recordLength
-      go false e o = (λ z. eqb-false (length buffer) recordLength e, λ n. refl)
-      go true e none = (λ z. absurd (omega arith), λ n. absurd (n (eqb-true (length buffer) recordLength e)))
-      go true e (some g) = (λ z. absurd (h g z), λ n. absurd (n (eqb-true (length buffer) recordLength e)))
+      go : (t : Bool) → has_size buffer ≡ t → (o : Option GraphName)
+          → number_of (and_then (cond t (or_refuse 16 o) (refuses 15)) f) ≡ 15 ↔ length buffer ≢ record_length
+      go false e o = (λ z. eqb-false (length buffer) record_length e, λ n. refl)
+      go true e none = (λ z. absurd (omega arith), λ n. absurd (n (eqb-true (length buffer) record_length e)))
+      go true e (some g) = (λ z. absurd (h g z), λ n. absurd (n (eqb-true (length buffer) record_length e)))
 
-  record-contents : ((g : GraphName) → numberOf (f g) ≢ 16)
-      → numberOf (andThen (opened (recordIn buffer)) f) ≡ 16 ↔ (length buffer ≡ recordLength) × (decode buffer ≡ none)
+  record_contents : ((g : GraphName) → number_of (f g) ≢ 16)
+      → number_of (and_then (opened (record_in buffer)) f) ≡ 16 ↔ (length buffer ≡ record_length) × (decode buffer ≡ none)
   unfolding opened
-  record-contents h = go (hasSize buffer) refl (decode buffer)
+  record_contents h = go (has_size buffer) refl (decode buffer)
     where
-      go : (t : Bool) → hasSize buffer ≡ t → (o : Option GraphName)
-          → numberOf (andThen (cond t (orRefuse 16 o) (refuses 15)) f) ≡ 16 ↔ (length buffer ≡ recordLength) × (o ≡ none)
-      go false e o = (λ z. absurd (omega arith), λ p. absurd (eqb-false (length buffer) recordLength e p.0))
-      go true e none = (λ z. (eqb-true (length buffer) recordLength e, refl), λ p. refl)
-      go true e (some g) = (λ z. absurd (h g z), λ p. absurd (some-not g p.1))
+      go : (t : Bool) → has_size buffer ≡ t → (o : Option GraphName)
+          → number_of (and_then (cond t (or_refuse 16 o) (refuses 15)) f) ≡ 16 ↔ (length buffer ≡ record_length) × (o ≡ none)
+      go false e o = (λ z. absurd (omega arith), λ p. absurd (eqb-false (length buffer) record_length e p.0))
+      go true e none = (λ z. (eqb-true (length buffer) record_length e, refl), λ p. refl)
+      go true e (some g) = (λ z. absurd (h g z), λ p. absurd (some_not g p.1))
 
 module _ (b buffer : Bytes) where
   -- the record's tags set in the list of b
-  abbrev three-judged : GraphName → List Tag → Given (List Tag)
-  three-judged g ts = judgedTags (shortTags (tagsOf g)) (setGraphName g ts)
+  abbrev three_judged : GraphName → List Tag → Given (List Tag)
+  three_judged g ts = judged_tags (short_tags (tags_of g)) (set_graph_name g ts)
 
   -- a record that is read gives neither of its two numbers
-  three-own : (g : GraphName) → (numberOf (andThen (tagList b) (three-judged g)) ≢ 15) × (numberOf (andThen (tagList b) (three-judged g)) ≢ 16)
-  unfolding tagList
-  three-own g = go (decodeTags b)
+  three_own : (g : GraphName) → (number_of (and_then (tag_list b) (three_judged g)) ≢ 15) × (number_of (and_then (tag_list b) (three_judged g)) ≢ 16)
+  unfolding tag_list
+  three_own g = go (decode_tags b)
     where
       go : (o : Option (List Tag))
-          → (numberOf (andThen (orRefuse 29 o) (three-judged g)) ≢ 15) × (numberOf (andThen (orRefuse 29 o) (three-judged g)) ≢ 16)
+          → (number_of (and_then (or_refuse 29 o) (three_judged g)) ≢ 15) × (number_of (and_then (or_refuse 29 o) (three_judged g)) ≢ 16)
       go none = omega arith
-      go (some ts) = let own = judged-own (shortTags (tagsOf g)) (setGraphName g ts) in (own.not-size, own.not-contents)
+      go (some ts) = let own = judged_own (short_tags (tags_of g)) (set_graph_name g ts) in (own.not_size, own.not_contents)
 
-  module _ (g : GraphName) (r : opened (recordIn buffer) ≡ gives g) where
-    three-read : setGraphNameIn b buffer ≡ andThen (tagList b) (three-judged g)
-    unfolding setGraphNameIn
-    three-read = rw r
+  module _ (g : GraphName) (r : opened (record_in buffer) ≡ gives g) where
+    three_read : set_graph_name_in b buffer ≡ and_then (tag_list b) (three_judged g)
+    unfolding set_graph_name_in
+    three_read = rw r
 
-    three-list : numberOf (setGraphNameIn b buffer) ≡ 29 ↔ decodeTags b ≡ none
-    three-list =
-        rw three-read
-        (list-refused b (three-judged g) (λ ts. (judged-own (shortTags (tagsOf g)) (setGraphName g ts)).not-list))
+    three_list : number_of (set_graph_name_in b buffer) ≡ 29 ↔ decode_tags b ≡ none
+    three_list =
+        rw three_read
+        (list_refused b (three_judged g) (λ ts. (judged_own (short_tags (tags_of g)) (set_graph_name g ts)).not_list))
 
-    module _ (ts : List Tag) (d : decodeTags b ≡ some ts) where
-      three-decoded : setGraphNameIn b buffer ≡ three-judged g ts
-      unfolding setGraphNameIn tagList
-      three-decoded = rw (r, d)
+    module _ (ts : List Tag) (d : decode_tags b ≡ some ts) where
+      three_decoded : set_graph_name_in b buffer ≡ three_judged g ts
+      unfolding set_graph_name_in tag_list
+      three_decoded = rw (r, d)
 
-      three-value : numberOf (setGraphNameIn b buffer) ≡ 20 ↔ shortTags (tagsOf g) ≡ false
-      three-value = rw three-decoded (short-number (shortTags (tagsOf g)) (setGraphName g ts))
+      three_value : number_of (set_graph_name_in b buffer) ≡ 20 ↔ short_tags (tags_of g) ≡ false
+      three_value = rw three_decoded (short_number (short_tags (tags_of g)) (set_graph_name g ts))
 
-      three-full : shortTags (tagsOf g) ≡ true → numberOf (setGraphNameIn b buffer) ≡ 21 ↔ maxTags < length (setGraphName g ts)
-      three-full short = rw (three-decoded, short) (many-number (setGraphName g ts))
+      three_full : short_tags (tags_of g) ≡ true → number_of (set_graph_name_in b buffer) ≡ 21 ↔ max_tags < length (set_graph_name g ts)
+      three_full short = rw (three_decoded, short) (many_number (set_graph_name g ts))
 
-  three-numbers : SetNumbers b buffer
-  unfolding setGraphNameIn
-  three-numbers =
-      let f : GraphName → Given (List Tag) = λ g. andThen (tagList b) (three-judged g) in
+  three_numbers : SetNumbers b buffer
+  unfolding set_graph_name_in
+  three_numbers =
+      let f : GraphName → Given (List Tag) = λ g. and_then (tag_list b) (three_judged g) in
       record {
-        refused = record-refused buffer f;
-        size = record-size buffer f (λ g. (three-own g).0);
-        contents = record-contents buffer f (λ g. (three-own g).1);
-        list = three-list;
-        value = λ g ts r d. three-value g r ts d;
-        full = λ g ts r d. three-full g r ts d;
+        refused = record_refused buffer f;
+        size = record_size buffer f (λ g. (three_own g).0);
+        contents = record_contents buffer f (λ g. (three_own g).1);
+        list = three_list;
+        value = λ g ts r d. three_value g r ts d;
+        full = λ g ts r d. three_full g r ts d;
       }
 
-pub tag-numbers : TagNumbers
-tag-numbers = record {
-  list = λ b key. (value-numbers b key).list;
-  key = λ b key. (value-numbers b key).key;
-  counts = count-number;
-  at = at-number;
-  get = get-number;
-  contains_key = contains-number;
-  insert = insert-numbers;
-  remove = remove-numbers;
-  value = value-number;
-  full = full-number;
-  output = output-number;
-  set-graph-name = three-numbers;
+pub tag_numbers : TagNumbers
+tag_numbers = record {
+  list = λ b key. (value_numbers b key).list;
+  key = λ b key. (value_numbers b key).key;
+  counts = count_number;
+  at = at_number;
+  get = get_number;
+  contains_key = contains_number;
+  insert = insert_numbers;
+  remove = remove_numbers;
+  value = value_number;
+  full = full_number;
+  output = output_number;
+  set_graph_name_lem = three_numbers;
 }

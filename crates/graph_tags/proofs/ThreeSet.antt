@@ -4,73 +4,73 @@ use mathlib.Core.Logic.{◌≢◌}
 use mathlib.Core.Bool.{true, cond}
 use mathlib.Core.List.{List}
 use mathlib.Core.Option.{some}
-use Rattle.model.specs.Bytes.{Bytes, sameBytes}
+use Rattle.model.specs.Bytes.{Bytes, same_bytes}
 use Rattle.model.specs.Record.{GraphName}
 use Rattle.model.specs.Layout.{decode}
-use Rattle.model.specs.Opening.{Given, gives, andThen, numberOf, recordIn}
-use Rattle.model.specs.Written.{tagsOf}
+use Rattle.model.specs.Opening.{Given, gives, and_then, number_of, record_in}
+use Rattle.model.specs.Written.{tags_of}
 use Rattle.model.specs.Statements.{Ascending}
-use Rattle.model.specs.TagList.{Tag, compareTags, lookUp, setGraphName, lower, fineKey}
-use Rattle.model.specs.TagOutcome.{tagList, valueIn, judgedTags, shortTags, setGraphNameIn, listWith}
-use Rattle.record.proofs.Opening.{reads-opened, decoded-reads}
-use Rattle.graph_tags.proofs.ThreeTags.{name-not-subgraph, name-not-translation, subgraph-not-translation, first-looks, second-looks, third-looks, other-looks, three-valid}
-use Rattle.graph_tags.specs.Change.{nameKey, subgraphKey, translationKey}
-use Rattle.tag_list.proofs.Coding.{decoded-valid}
-use Rattle.tag_edits.proofs.Outcome.{tagList-gives, list-accepted, judged-gives, judged-accepted, value-decoded, value-encoded, changed-value}
+use Rattle.model.specs.TagList.{Tag, compare_tags, look_up, set_graph_name, lower, fine_key}
+use Rattle.model.specs.TagOutcome.{tag_list, value_in, judged_tags, short_tags, set_graph_name_in, list_with}
+use Rattle.record.proofs.Opening.{reads_opened, decoded_reads}
+use Rattle.graph_tags.proofs.ThreeTags.{name_not_subgraph, name_not_translation, subgraph_not_translation, first_looks, second_looks, third_looks, other_looks, three_valid}
+use Rattle.graph_tags.specs.Change.{name_key, subgraph_key, translation_key}
+use Rattle.tag_list.proofs.Coding.{decoded_valid}
+use Rattle.tag_edits.proofs.Outcome.{tag_list_gives, list_accepted, judged_gives, judged_accepted, value_decoded, value_encoded, changed_value}
 
-module _ (g : GraphName) (ts : List Tag) (asc : Ascending compareTags ts) where
-  name-looks : lookUp nameKey (setGraphName g ts) ≡ (tagsOf g).name
-  unfolding setGraphName
-  name-looks =
-      first-looks nameKey subgraphKey translationKey name-not-subgraph name-not-translation subgraph-not-translation
-      (tagsOf g).name (tagsOf g).subgraph (tagsOf g).translation ts asc
+module _ (g : GraphName) (ts : List Tag) (asc : Ascending compare_tags ts) where
+  name_looks : look_up name_key (set_graph_name g ts) ≡ (tags_of g).name
+  unfolding set_graph_name
+  name_looks =
+      first_looks name_key subgraph_key translation_key name_not_subgraph name_not_translation subgraph_not_translation
+      (tags_of g).name (tags_of g).subgraph (tags_of g).translation ts asc
 
-  subgraph-looks : lookUp subgraphKey (setGraphName g ts) ≡ (tagsOf g).subgraph
-  unfolding setGraphName
-  subgraph-looks =
-      second-looks nameKey subgraphKey translationKey name-not-subgraph name-not-translation subgraph-not-translation
-      (tagsOf g).name (tagsOf g).subgraph (tagsOf g).translation ts asc
+  subgraph_looks : look_up subgraph_key (set_graph_name g ts) ≡ (tags_of g).subgraph
+  unfolding set_graph_name
+  subgraph_looks =
+      second_looks name_key subgraph_key translation_key name_not_subgraph name_not_translation subgraph_not_translation
+      (tags_of g).name (tags_of g).subgraph (tags_of g).translation ts asc
 
-  translation-looks : lookUp translationKey (setGraphName g ts) ≡ (tagsOf g).translation
-  unfolding setGraphName
-  translation-looks =
-      third-looks nameKey subgraphKey translationKey name-not-subgraph name-not-translation subgraph-not-translation
-      (tagsOf g).name (tagsOf g).subgraph (tagsOf g).translation ts asc
+  translation_looks : look_up translation_key (set_graph_name g ts) ≡ (tags_of g).translation
+  unfolding set_graph_name
+  translation_looks =
+      third_looks name_key subgraph_key translation_key name_not_subgraph name_not_translation subgraph_not_translation
+      (tags_of g).name (tags_of g).subgraph (tags_of g).translation ts asc
 
-  further-looks : (j : Bytes) → j ≢ nameKey → j ≢ subgraphKey → j ≢ translationKey → lookUp j (setGraphName g ts) ≡ lookUp j ts
-  unfolding setGraphName
-  further-looks =
-      other-looks nameKey subgraphKey translationKey name-not-subgraph name-not-translation subgraph-not-translation
-      (tagsOf g).name (tagsOf g).subgraph (tagsOf g).translation ts asc
+  further_looks : (j : Bytes) → j ≢ name_key → j ≢ subgraph_key → j ≢ translation_key → look_up j (set_graph_name g ts) ≡ look_up j ts
+  unfolding set_graph_name
+  further_looks =
+      other_looks name_key subgraph_key translation_key name_not_subgraph name_not_translation subgraph_not_translation
+      (tags_of g).name (tags_of g).subgraph (tags_of g).translation ts asc
 
--- as `setGraphNameIn` goes on with the list
-abbrev toSetThree : GraphName → List Tag → Given (List Tag)
-toSetThree g ts = judgedTags (shortTags (tagsOf g)) (setGraphName g ts)
+-- as `set_graph_name_in` goes on with the list
+abbrev to_set_three : GraphName → List Tag → Given (List Tag)
+to_set_three g ts = judged_tags (short_tags (tags_of g)) (set_graph_name g ts)
 
-three-in : (b buffer : Bytes) (g : GraphName) → decode buffer ≡ some g → setGraphNameIn b buffer ≡ andThen (tagList b) (toSetThree g)
-unfolding setGraphNameIn
-three-in b buffer g d = rw (reads-opened (recordIn buffer) g (decoded-reads buffer g d))
+three_in : (b buffer : Bytes) (g : GraphName) → decode buffer ≡ some g → set_graph_name_in b buffer ≡ and_then (tag_list b) (to_set_three g)
+unfolding set_graph_name_in
+three_in b buffer g d = rw (reads_opened (record_in buffer) g (decoded_reads buffer g d))
 
-pub three-set : (b buffer : Bytes) (g : GraphName) (j : Bytes) → numberOf (setGraphNameIn b buffer) ≡ 0 → decode buffer ≡ some g → fineKey j ≡ true
-    → valueIn (listWith (setGraphNameIn b buffer) b) j
-    ≡ cond (sameBytes (lower j) nameKey) (gives (tagsOf g).name)
-    (cond (sameBytes (lower j) subgraphKey) (gives (tagsOf g).subgraph)
-    (cond (sameBytes (lower j) translationKey) (gives (tagsOf g).translation) (valueIn b j)))
-three-set b buffer g j z d e =
-    let a = list-accepted b (toSetThree g) (rw (three-in b buffer g d) at z) in
+pub three_set : (b buffer : Bytes) (g : GraphName) (j : Bytes) → number_of (set_graph_name_in b buffer) ≡ 0 → decode buffer ≡ some g → fine_key j ≡ true
+    → value_in (list_with (set_graph_name_in b buffer) b) j
+    ≡ cond (same_bytes (lower j) name_key) (gives (tags_of g).name)
+    (cond (same_bytes (lower j) subgraph_key) (gives (tags_of g).subgraph)
+    (cond (same_bytes (lower j) translation_key) (gives (tags_of g).translation) (value_in b j)))
+three_set b buffer g j z d e =
+    let a = list_accepted b (to_set_three g) (rw (three_in b buffer g d) at z) in
     let ts = a.0 in
-    let us = setGraphName g ts in
-    let v = decoded-valid b ts a.1 in
+    let us = set_graph_name g ts in
+    let v = decoded_valid b ts a.1 in
     let asc = v.order in
-    let (short, few) = judged-accepted (shortTags (tagsOf g)) us a.2 in
+    let (short, few) = judged_accepted (short_tags (tags_of g)) us a.2 in
     rw (
-      three-in b buffer g d,
-      tagList-gives b ts a.1,
-      judged-gives (shortTags (tagsOf g)) us short few,
-      value-encoded us j (three-valid g ts asc v short few) e,
-      value-decoded b ts j a.1 e,
+      three_in b buffer g d,
+      tag_list_gives b ts a.1,
+      judged_gives (short_tags (tags_of g)) us short few,
+      value_encoded us j (three_valid g ts asc v short few) e,
+      value_decoded b ts j a.1 e,
     )
-    (changed-value (lower j) nameKey (lookUp (lower j) us) (tagsOf g).name _ (λ s. rw s (name-looks g ts asc)) (λ n.
-    changed-value (lower j) subgraphKey (lookUp (lower j) us) (tagsOf g).subgraph _ (λ s. rw s (subgraph-looks g ts asc)) (λ m.
-    changed-value (lower j) translationKey (lookUp (lower j) us) (tagsOf g).translation _ (λ s. rw s (translation-looks g ts asc)) (λ l.
-    ap gives (further-looks g ts asc (lower j) n m l)))))
+    (changed_value (lower j) name_key (look_up (lower j) us) (tags_of g).name _ (λ s. rw s (name_looks g ts asc)) (λ n.
+    changed_value (lower j) subgraph_key (look_up (lower j) us) (tags_of g).subgraph _ (λ s. rw s (subgraph_looks g ts asc)) (λ m.
+    changed_value (lower j) translation_key (look_up (lower j) us) (tags_of g).translation _ (λ s. rw s (translation_looks g ts asc)) (λ l.
+    ap gives (further_looks g ts asc (lower j) n m l)))))

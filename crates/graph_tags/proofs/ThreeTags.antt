@@ -8,147 +8,147 @@ use mathlib.Core.Option.{Option}
 use Prim.Native.Nat.{◌+◌, ◌≤◌}
 use native.Mathlib.Omega.{arith}
 use lib.ListN.{length}
-use Rattle.model.specs.Bytes.{Bytes, sameBytes, compareBytes, compareNumbers, everyByte}
+use Rattle.model.specs.Bytes.{Bytes, same_bytes, compare_bytes, compare_numbers, every_byte}
 use Rattle.model.specs.Record.{GraphName}
-use Rattle.model.specs.Written.{tagsOf, fits}
+use Rattle.model.specs.Written.{tags_of, fits}
 use Rattle.model.specs.Statements.{Ascending}
-use Rattle.model.specs.TagList.{Tag, compareTags, lookUp, setOrRemove, setGraphName, maxTags, maxValue, storedKey}
-use Rattle.model.specs.TagOutcome.{shortTags}
+use Rattle.model.specs.TagList.{Tag, compare_tags, look_up, set_or_remove, set_graph_name, max_tags, max_value, stored_key}
+use Rattle.model.specs.TagOutcome.{short_tags}
 use Rattle.model.specs.TagStatements.{ValidTags}
 use Rattle.text.proofs.Tests.{both_true}
-use Rattle.graph_tags.specs.Change.{removeAbsent, setPresent, added, gone, changed, cleared, filled, nameKey, subgraphKey, translationKey}
+use Rattle.graph_tags.specs.Change.{remove_absent, set_present, added, gone, changed, cleared, filled, name_key, subgraph_key, translation_key}
 use Rattle.tag_list.proofs.Map.{same_lists}
 use Rattle.tag_edits.proofs.Outcome.{differ}
-use Rattle.graph_tags.proofs.Change.{same_or_not, change-kept, absent-kept, present-kept}
-use Rattle.graph_tags.proofs.Change.{change-same, absent-same, present-same, change-other, absent-other, present-other}
-use Rattle.graph_tags.proofs.Change.{length-change, added-same, gone_same, present-longer, absent-valid, present-valid}
+use Rattle.graph_tags.proofs.Change.{same_or_not, change_kept, absent_kept, present_kept}
+use Rattle.graph_tags.proofs.Change.{change_same, absent_same, present_same, change_other, absent_other, present_other}
+use Rattle.graph_tags.proofs.Change.{length_change, added_same, gone_same, present_longer, absent_valid, present_valid}
 
 -- ------------------------------------------------------------------ three tags of different keys
 
-module _ (a b c : Bytes) (ab : a ≢ b) (ac : a ≢ c) (bc : b ≢ c) (n s t : Option Bytes) (ts : List Tag) (asc : Ascending compareTags ts) where
+module _ (a b c : Bytes) (ab : a ≢ b) (ac : a ≢ c) (bc : b ≢ c) (n s t : Option Bytes) (ts : List Tag) (asc : Ascending compare_tags ts) where
   -- what each key gives, one after the other or the absent ones first
-  pub first-looks : lookUp a (changed a b c n s t ts) ≡ n
-  first-looks = change-other c a ac t _ ∙ change-other b a ab s _ ∙ change-same a n ts asc
+  pub first_looks : look_up a (changed a b c n s t ts) ≡ n
+  first_looks = change_other c a ac t _ ∙ change_other b a ab s _ ∙ change_same a n ts asc
 
-  pub second-looks : lookUp b (changed a b c n s t ts) ≡ s
-  second-looks = change-other c b bc t _ ∙ change-same b s _ (change-kept a n ts asc)
+  pub second_looks : look_up b (changed a b c n s t ts) ≡ s
+  second_looks = change_other c b bc t _ ∙ change_same b s _ (change_kept a n ts asc)
 
-  pub third-looks : lookUp c (changed a b c n s t ts) ≡ t
-  third-looks = change-same c t _ (change-kept b s _ (change-kept a n ts asc))
+  pub third_looks : look_up c (changed a b c n s t ts) ≡ t
+  third_looks = change_same c t _ (change_kept b s _ (change_kept a n ts asc))
 
-  pub other-looks : (j : Bytes) → j ≢ a → j ≢ b → j ≢ c → lookUp j (changed a b c n s t ts) ≡ lookUp j ts
-  other-looks j x y z = change-other c j z t _ ∙ change-other b j y s _ ∙ change-other a j x n ts
+  pub other_looks : (j : Bytes) → j ≢ a → j ≢ b → j ≢ c → look_up j (changed a b c n s t ts) ≡ look_up j ts
+  other_looks j x y z = change_other c j z t _ ∙ change_other b j y s _ ∙ change_other a j x n ts
 
-  first-looks' : lookUp a (filled a b c n s t (cleared a b c n s t ts)) ≡ n
-  first-looks' =
-      present-other c a ac t _ ∙ present-other b a ab s _
-      ∙ present-same a n _ (λ e. absent-other c a ac t _ ∙ absent-other b a ab s _ ∙ absent-same a n ts asc e)
+  first_looks' : look_up a (filled a b c n s t (cleared a b c n s t ts)) ≡ n
+  first_looks' =
+      present_other c a ac t _ ∙ present_other b a ab s _
+      ∙ present_same a n _ (λ e. absent_other c a ac t _ ∙ absent_other b a ab s _ ∙ absent_same a n ts asc e)
 
-  second-looks' : lookUp b (filled a b c n s t (cleared a b c n s t ts)) ≡ s
-  second-looks' =
-      present-other c b bc t _
-      ∙ present-same b s _ (λ e. present-other a b (λ d. ab (sym d)) n _ ∙ absent-other c b bc t _ ∙ absent-same b s _ (absent-kept a n ts asc) e)
+  second_looks' : look_up b (filled a b c n s t (cleared a b c n s t ts)) ≡ s
+  second_looks' =
+      present_other c b bc t _
+      ∙ present_same b s _ (λ e. present_other a b (λ d. ab (sym d)) n _ ∙ absent_other c b bc t _ ∙ absent_same b s _ (absent_kept a n ts asc) e)
 
-  third-looks' : lookUp c (filled a b c n s t (cleared a b c n s t ts)) ≡ t
-  third-looks' =
-      present-same c t _ (λ e.
-      present-other b c (λ d. bc (sym d)) s _ ∙ present-other a c (λ d. ac (sym d)) n _
-      ∙ absent-same c t _ (absent-kept b s _ (absent-kept a n ts asc)) e)
+  third_looks' : look_up c (filled a b c n s t (cleared a b c n s t ts)) ≡ t
+  third_looks' =
+      present_same c t _ (λ e.
+      present_other b c (λ d. bc (sym d)) s _ ∙ present_other a c (λ d. ac (sym d)) n _
+      ∙ absent_same c t _ (absent_kept b s _ (absent_kept a n ts asc)) e)
 
-  other-looks' : (j : Bytes) → j ≢ a → j ≢ b → j ≢ c → lookUp j (filled a b c n s t (cleared a b c n s t ts)) ≡ lookUp j ts
-  other-looks' j x y z =
-      present-other c j z t _ ∙ present-other b j y s _ ∙ present-other a j x n _
-      ∙ absent-other c j z t _ ∙ absent-other b j y s _ ∙ absent-other a j x n ts
+  other_looks' : (j : Bytes) → j ≢ a → j ≢ b → j ≢ c → look_up j (filled a b c n s t (cleared a b c n s t ts)) ≡ look_up j ts
+  other_looks' j x y z =
+      present_other c j z t _ ∙ present_other b j y s _ ∙ present_other a j x n _
+      ∙ absent_other c j z t _ ∙ absent_other b j y s _ ∙ absent_other a j x n ts
 
   -- every key gives the same
-  same-looks : (j : Bytes) → lookUp j (changed a b c n s t ts) ≡ lookUp j (filled a b c n s t (cleared a b c n s t ts))
-  same-looks j = go (same_or_not j a) (same_or_not j b) (same_or_not j c)
+  same_looks : (j : Bytes) → look_up j (changed a b c n s t ts) ≡ look_up j (filled a b c n s t (cleared a b c n s t ts))
+  same_looks j = go (same_or_not j a) (same_or_not j b) (same_or_not j c)
     where
       go : (j ≡ a) ⊎ (j ≢ a) → (j ≡ b) ⊎ (j ≢ b) → (j ≡ c) ⊎ (j ≢ c)
-          → lookUp j (changed a b c n s t ts) ≡ lookUp j (filled a b c n s t (cleared a b c n s t ts))
-      go (inl e) y z = rw e (first-looks ∙ sym (first-looks'))
-      go (inr x) (inl e) z = rw e (second-looks ∙ sym (second-looks'))
-      go (inr x) (inr y) (inl e) = rw e (third-looks ∙ sym (third-looks'))
-      go (inr x) (inr y) (inr z) = other-looks j x y z ∙ sym (other-looks' j x y z)
+          → look_up j (changed a b c n s t ts) ≡ look_up j (filled a b c n s t (cleared a b c n s t ts))
+      go (inl e) y z = rw e (first_looks ∙ sym (first_looks'))
+      go (inr x) (inl e) z = rw e (second_looks ∙ sym (second_looks'))
+      go (inr x) (inr y) (inl e) = rw e (third_looks ∙ sym (third_looks'))
+      go (inr x) (inr y) (inr z) = other_looks j x y z ∙ sym (other_looks' j x y z)
 
-  pub apart-same : changed a b c n s t ts ≡ filled a b c n s t (cleared a b c n s t ts)
-  apart-same =
+  pub apart_same : changed a b c n s t ts ≡ filled a b c n s t (cleared a b c n s t ts)
+  apart_same =
       same_lists (changed a b c n s t ts) (filled a b c n s t (cleared a b c n s t ts))
-      (change-kept c t _ (change-kept b s _ (change-kept a n ts asc)))
-      (present-kept c t _ (present-kept b s _ (present-kept a n _ (absent-kept c t _ (absent-kept b s _ (absent-kept a n ts asc))))))
-      same-looks
+      (change_kept c t _ (change_kept b s _ (change_kept a n ts asc)))
+      (present_kept c t _ (present_kept b s _ (present_kept a n _ (absent_kept c t _ (absent_kept b s _ (absent_kept a n ts asc))))))
+      same_looks
 
-  pub length-changed : length (changed a b c n s t ts) + (gone a n ts + (gone b s ts + gone c t ts))
+  pub length_changed : length (changed a b c n s t ts) + (gone a n ts + (gone b s ts + gone c t ts))
       ≡ length ts + (added a n ts + (added b s ts + added c t ts))
-  length-changed =
-      let us = setOrRemove a n ts in
-      let vs = setOrRemove b s us in
-      let first = change-kept a n ts asc in
-      let at_b = change-other a b (λ e. ab (sym e)) n ts in
-      let at_c = change-other b c (λ e. bc (sym e)) s us ∙ change-other a c (λ e. ac (sym e)) n ts in
+  length_changed =
+      let us = set_or_remove a n ts in
+      let vs = set_or_remove b s us in
+      let first = change_kept a n ts asc in
+      let at_b = change_other a b (λ e. ab (sym e)) n ts in
+      let at_c = change_other b c (λ e. bc (sym e)) s us ∙ change_other a c (λ e. ac (sym e)) n ts in
       omega (
         arith,
-        length-change a n ts asc,
-        length-change b s us first,
-        length-change c t vs (change-kept b s us first),
-        added-same b s us ts at_b,
+        length_change a n ts asc,
+        length_change b s us first,
+        length_change c t vs (change_kept b s us first),
+        added_same b s us ts at_b,
         gone_same b s us ts at_b,
-        added-same c t vs ts at_c,
+        added_same c t vs ts at_c,
         gone_same c t vs ts at_c,
       )
 
   -- within the sizes, where the values are short and the tags not too many in the end: they are no more before
-  pub changed-valid : ValidTags ts → storedKey a ≡ true → storedKey b ≡ true → storedKey c ≡ true
-      → fits n maxValue && (fits s maxValue && fits t maxValue) ≡ true → length (changed a b c n s t ts) ≤ maxTags → ValidTags (changed a b c n s t ts)
-  changed-valid h i j k short few =
-      let p = both_true (fits n maxValue) (fits s maxValue && fits t maxValue) short in
-      let q = both_true (fits s maxValue) (fits t maxValue) p.1 in
+  pub changed_valid : ValidTags ts → stored_key a ≡ true → stored_key b ≡ true → stored_key c ≡ true
+      → fits n max_value && (fits s max_value && fits t max_value) ≡ true → length (changed a b c n s t ts) ≤ max_tags → ValidTags (changed a b c n s t ts)
+  changed_valid h i j k short few =
+      let p = both_true (fits n max_value) (fits s max_value && fits t max_value) short in
+      let q = both_true (fits s max_value) (fits t max_value) p.1 in
       let us = cleared a b c n s t ts in
-      let us-valid : ValidTags us = absent-valid c t _ (absent-valid b s _ (absent-valid a n ts h)) in
-      let vs = setPresent a n us in
-      let vs-kept = present-kept a n us us-valid.order in
-      let ws = setPresent b s vs in
-      let end : length (setPresent c t ws) ≤ maxTags = rw apart-same at few in
-      let to_end = present-longer c t ws (present-kept b s vs vs-kept) in
-      let to-ws = present-longer b s vs vs-kept in
-      let vs-valid = present-valid a n us us-valid i p.0 (omega arith) in
-      let ws-valid = present-valid b s vs vs-valid j q.0 (omega arith) in
-      rw apart-same (present-valid c t ws ws-valid k q.1 end)
+      let us_valid : ValidTags us = absent_valid c t _ (absent_valid b s _ (absent_valid a n ts h)) in
+      let vs = set_present a n us in
+      let vs_kept = present_kept a n us us_valid.order in
+      let ws = set_present b s vs in
+      let end : length (set_present c t ws) ≤ max_tags = rw apart_same at few in
+      let to_end = present_longer c t ws (present_kept b s vs vs_kept) in
+      let to_ws = present_longer b s vs vs_kept in
+      let vs_valid = present_valid a n us us_valid i p.0 (omega arith) in
+      let ws_valid = present_valid b s vs vs_valid j q.0 (omega arith) in
+      rw apart_same (present_valid c t ws ws_valid k q.1 end)
 
 -- ------------------------------------------------------------------ a record's tags
 
-pub name-not-subgraph : nameKey ≢ subgraphKey
-unfolding sameBytes compareBytes compareNumbers
-name-not-subgraph = differ nameKey subgraphKey refl
+pub name_not_subgraph : name_key ≢ subgraph_key
+unfolding same_bytes compare_bytes compare_numbers
+name_not_subgraph = differ name_key subgraph_key refl
 
-pub name-not-translation : nameKey ≢ translationKey
-unfolding sameBytes compareBytes compareNumbers
-name-not-translation = differ nameKey translationKey refl
+pub name_not_translation : name_key ≢ translation_key
+unfolding same_bytes compare_bytes compare_numbers
+name_not_translation = differ name_key translation_key refl
 
-pub subgraph-not-translation : subgraphKey ≢ translationKey
-unfolding sameBytes compareBytes compareNumbers
-subgraph-not-translation = differ subgraphKey translationKey refl
+pub subgraph_not_translation : subgraph_key ≢ translation_key
+unfolding same_bytes compare_bytes compare_numbers
+subgraph_not_translation = differ subgraph_key translation_key refl
 
-module _ (g : GraphName) (ts : List Tag) (asc : Ascending compareTags ts) where
-  pub three-apart : setGraphName g ts
-      ≡ setPresent translationKey (tagsOf g).translation (setPresent subgraphKey (tagsOf g).subgraph (setPresent nameKey (tagsOf g).name
-      (removeAbsent translationKey (tagsOf g).translation (removeAbsent subgraphKey (tagsOf g).subgraph (removeAbsent nameKey (tagsOf g).name ts)))))
-  unfolding setGraphName
-  three-apart =
-      apart-same nameKey subgraphKey translationKey name-not-subgraph name-not-translation subgraph-not-translation
-      (tagsOf g).name (tagsOf g).subgraph (tagsOf g).translation ts asc
+module _ (g : GraphName) (ts : List Tag) (asc : Ascending compare_tags ts) where
+  pub three_apart : set_graph_name g ts
+      ≡ set_present translation_key (tags_of g).translation (set_present subgraph_key (tags_of g).subgraph (set_present name_key (tags_of g).name
+      (remove_absent translation_key (tags_of g).translation (remove_absent subgraph_key (tags_of g).subgraph (remove_absent name_key (tags_of g).name ts)))))
+  unfolding set_graph_name
+  three_apart =
+      apart_same name_key subgraph_key translation_key name_not_subgraph name_not_translation subgraph_not_translation
+      (tags_of g).name (tags_of g).subgraph (tags_of g).translation ts asc
 
-  pub length_three : length (setGraphName g ts)
-      + (gone nameKey (tagsOf g).name ts + (gone subgraphKey (tagsOf g).subgraph ts + gone translationKey (tagsOf g).translation ts))
+  pub length_three : length (set_graph_name g ts)
+      + (gone name_key (tags_of g).name ts + (gone subgraph_key (tags_of g).subgraph ts + gone translation_key (tags_of g).translation ts))
       ≡ length ts
-      + (added nameKey (tagsOf g).name ts + (added subgraphKey (tagsOf g).subgraph ts + added translationKey (tagsOf g).translation ts))
-  unfolding setGraphName
+      + (added name_key (tags_of g).name ts + (added subgraph_key (tags_of g).subgraph ts + added translation_key (tags_of g).translation ts))
+  unfolding set_graph_name
   length_three =
-      length-changed nameKey subgraphKey translationKey name-not-subgraph name-not-translation subgraph-not-translation
-      (tagsOf g).name (tagsOf g).subgraph (tagsOf g).translation ts asc
+      length_changed name_key subgraph_key translation_key name_not_subgraph name_not_translation subgraph_not_translation
+      (tags_of g).name (tags_of g).subgraph (tags_of g).translation ts asc
 
-  pub three-valid : ValidTags ts → shortTags (tagsOf g) ≡ true → length (setGraphName g ts) ≤ maxTags → ValidTags (setGraphName g ts)
-  unfolding setGraphName storedKey everyByte
-  three-valid h short few =
-      changed-valid nameKey subgraphKey translationKey name-not-subgraph name-not-translation subgraph-not-translation
-      (tagsOf g).name (tagsOf g).subgraph (tagsOf g).translation ts asc h refl refl refl short few
+  pub three_valid : ValidTags ts → short_tags (tags_of g) ≡ true → length (set_graph_name g ts) ≤ max_tags → ValidTags (set_graph_name g ts)
+  unfolding set_graph_name stored_key every_byte
+  three_valid h short few =
+      changed_valid name_key subgraph_key translation_key name_not_subgraph name_not_translation subgraph_not_translation
+      (tags_of g).name (tags_of g).subgraph (tags_of g).translation ts asc h refl refl refl short few

@@ -9,122 +9,122 @@ use lib.Seq.{take_at}
 use Rattle.model.specs.Bytes.{Bytes, put}
 use Rattle.model.specs.Record.{GraphName}
 use Rattle.model.specs.Layout.{decode}
-use Rattle.model.specs.Opening.{Given, refuses, gives, andThen, orRefuse, isSome, opened, recordIn, hasSize}
+use Rattle.model.specs.Opening.{Given, refuses, gives, and_then, or_refuse, is_some, opened, record_in, has_size}
 use Rattle.model.specs.Questions.{asked, mapped}
-use Rattle.model.specs.Written.{Tags, TagSizes, tagsOf, allWithin, tagSizes, tagsWritten, putValue}
-use Rattle.model.specs.TagList.{maxValue, setGraphName, shownTags, decodeTags}
-use Rattle.model.specs.TagOutcome.{tagList, shortTags, judgedTags, setGraphNameIn}
+use Rattle.model.specs.Written.{Tags, TagSizes, tags_of, all_within, tag_sizes, tags_written, put_value}
+use Rattle.model.specs.TagList.{max_value, set_graph_name, shown_tags, decode_tags}
+use Rattle.model.specs.TagOutcome.{tag_list, short_tags, judged_tags, set_graph_name_in}
 use Rattle.export.specs.declared.answer.Tag.{Tag}
 use Rattle.export.specs.declared.answer.Tag.TheVariants.{Absent, Size}
 use Rattle.export.specs.declared.answer.WrittenTags.TheVariants.{Are}
-use Rattle.export.specs.Answers.{tagSize, AllAnswers}
-use Rattle.tag_list.proofs.Ready.{list-refused, list-given}
-use Rattle.graph_tags.specs.Change.{changed, nameKey, subgraphKey, translationKey}
-use Rattle.graph_tags.specs.Three.{valueAt}
-use Rattle.tag_edits.proofs.Inserting.{judged-long}
+use Rattle.export.specs.Answers.{tag_size, AllAnswers}
+use Rattle.tag_list.proofs.Ready.{list_refused, list_given}
+use Rattle.graph_tags.specs.Change.{changed, name_key, subgraph_key, translation_key}
+use Rattle.graph_tags.specs.Three.{value_at}
+use Rattle.tag_edits.proofs.Inserting.{judged_long}
 
 -- what is written of a record's tags to three outputs for values
 abbrev pub written : Bytes → Given Tags
-written buffer = tagsWritten buffer maxValue maxValue maxValue
+written buffer = tags_written buffer max_value max_value max_value
 
 -- opening a record gives no 17
-not-17 : (buffer : Bytes) → opened (recordIn buffer) ≡ refuses 17 → ⊥
+not_17 : (buffer : Bytes) → opened (record_in buffer) ≡ refuses 17 → ⊥
 unfolding opened
-not-17 buffer e = go (hasSize buffer) (decode buffer) e
+not_17 buffer e = go (has_size buffer) (decode buffer) e
   where
-    go : (t : Bool) (o : Option GraphName) → cond t (orRefuse 16 o) (refuses 15) ≡ refuses 17 → ⊥
+    go : (t : Bool) (o : Option GraphName) → cond t (or_refuse 16 o) (refuses 15) ≡ refuses 17 → ⊥
     go true none e = let z : ◌≡◌ {A = ℕ} 16 17 = cc in omega arith
     go true (some g) e = let z : ◌≡◌ {A = ℕ} 0 1 = cc in omega arith
     go false o e = let z : ◌≡◌ {A = ℕ} 15 17 = cc in omega arith
 
 -- the writer's answer by what the record opens to
-written-by : (buffer : Bytes) → written buffer ≡ allWithin maxValue maxValue maxValue (andThen (opened (recordIn buffer)) λ g. gives (tagsOf g))
-unfolding tagsWritten asked
-written-by buffer = refl
+written_by : (buffer : Bytes) → written buffer ≡ all_within max_value max_value max_value (and_then (opened (record_in buffer)) λ g. gives (tags_of g))
+unfolding tags_written asked
+written_by buffer = refl
 
 -- the change by what the record opens to
-set-by : (b buffer : Bytes) → setGraphNameIn b buffer
-    ≡ andThen (opened (recordIn buffer)) λ g. andThen (tagList b) λ ts. judgedTags (shortTags (tagsOf g)) (setGraphName g ts)
-unfolding setGraphNameIn
-set-by b buffer = refl
+set_by : (b buffer : Bytes) → set_graph_name_in b buffer
+    ≡ and_then (opened (record_in buffer)) λ g. and_then (tag_list b) λ ts. judged_tags (short_tags (tags_of g)) (set_graph_name g ts)
+unfolding set_graph_name_in
+set_by b buffer = refl
 
 module _ (b buffer : Bytes) where
   -- a record that is refused
-  pub through-refused : (k : ℕ) → refuses k ≡ tagSizes (written buffer) → (k ≡ 17 → ⊥) → setGraphNameIn b buffer ≡ refuses k
-  through-refused k e n = set-by b buffer ∙ go (opened (recordIn buffer)) (rw written-by at e)
+  pub through_refused : (k : ℕ) → refuses k ≡ tag_sizes (written buffer) → (k ≡ 17 → ⊥) → set_graph_name_in b buffer ≡ refuses k
+  through_refused k e n = set_by b buffer ∙ go (opened (record_in buffer)) (rw written_by at e)
     where
-      short : (g : GraphName) (t : Bool) → ◌≡◌ {A = Given TagSizes} (refuses k) (tagSizes (cond t (gives (tagsOf g)) (refuses 17))) → ⊥
+      short : (g : GraphName) (t : Bool) → ◌≡◌ {A = Given TagSizes} (refuses k) (tag_sizes (cond t (gives (tags_of g)) (refuses 17))) → ⊥
       short g true e = let z : ◌≡◌ {A = ℕ} 0 1 = cc in omega arith
       short g false e = n (cc)
 
-      go : (o : Given GraphName) → refuses k ≡ tagSizes (allWithin maxValue maxValue maxValue (andThen o λ g. gives (tagsOf g)))
-          → (andThen o λ g. andThen (tagList b) λ ts. judgedTags (shortTags (tagsOf g)) (setGraphName g ts)) ≡ refuses k
+      go : (o : Given GraphName) → refuses k ≡ tag_sizes (all_within max_value max_value max_value (and_then o λ g. gives (tags_of g)))
+          → (and_then o λ g. and_then (tag_list b) λ ts. judged_tags (short_tags (tags_of g)) (set_graph_name g ts)) ≡ refuses k
       go (refuses j) e = cc
-      go (gives g) e = absurd (short g (shortTags (tagsOf g)) e)
+      go (gives g) e = absurd (short g (short_tags (tags_of g)) e)
 
   -- a record one of whose tags is long
-  long-record : refuses 17 ≡ tagSizes (written buffer) → (g : GraphName) × (opened (recordIn buffer) ≡ gives g) × (shortTags (tagsOf g) ≡ false)
-  long-record e = go (opened (recordIn buffer)) refl (rw written-by at e)
+  long_record : refuses 17 ≡ tag_sizes (written buffer) → (g : GraphName) × (opened (record_in buffer) ≡ gives g) × (short_tags (tags_of g) ≡ false)
+  long_record e = go (opened (record_in buffer)) refl (rw written_by at e)
     where
-      short : (g : GraphName) (t : Bool) → ◌≡◌ {A = Given TagSizes} (refuses 17) (tagSizes (cond t (gives (tagsOf g)) (refuses 17))) → t ≡ false
+      short : (g : GraphName) (t : Bool) → ◌≡◌ {A = Given TagSizes} (refuses 17) (tag_sizes (cond t (gives (tags_of g)) (refuses 17))) → t ≡ false
       short g true e = cc
       short g false e = refl
 
-      go : (o : Given GraphName) → opened (recordIn buffer) ≡ o → refuses 17 ≡ tagSizes (allWithin maxValue maxValue maxValue (andThen o λ g. gives (tagsOf g)))
-          → (g : GraphName) × (opened (recordIn buffer) ≡ gives g) × (shortTags (tagsOf g) ≡ false)
-      go (refuses j) q e = absurd (not-17 buffer (q ∙ cc))
-      go (gives g) q e = (g, q, short g (shortTags (tagsOf g)) e)
+      go : (o : Given GraphName) → opened (record_in buffer) ≡ o → refuses 17 ≡ tag_sizes (all_within max_value max_value max_value (and_then o λ g. gives (tags_of g)))
+          → (g : GraphName) × (opened (record_in buffer) ≡ gives g) × (short_tags (tags_of g) ≡ false)
+      go (refuses j) q e = absurd (not_17 buffer (q ∙ cc))
+      go (gives g) q e = (g, q, short g (short_tags (tags_of g)) e)
 
-  pub through-long-unlisted : refuses 17 ≡ tagSizes (written buffer) → isSome (decodeTags b) ≡ false → setGraphNameIn b buffer ≡ refuses 29
-  through-long-unlisted e d = let (g, q, s) = long-record e in set-by b buffer ∙ rw (q, list-refused b d)
+  pub through_long_unlisted : refuses 17 ≡ tag_sizes (written buffer) → is_some (decode_tags b) ≡ false → set_graph_name_in b buffer ≡ refuses 29
+  through_long_unlisted e d = let (g, q, s) = long_record e in set_by b buffer ∙ rw (q, list_refused b d)
 
-  pub through-long : refuses 17 ≡ tagSizes (written buffer) → isSome (decodeTags b) ≡ true → setGraphNameIn b buffer ≡ refuses 20
-  through-long e d =
-      let (g, q, s) = long-record e in
-      set-by b buffer ∙ rw (q, list-given b d) (judged-long (shortTags (tagsOf g)) (setGraphName g (shownTags b)) s)
+  pub through_long : refuses 17 ≡ tag_sizes (written buffer) → is_some (decode_tags b) ≡ true → set_graph_name_in b buffer ≡ refuses 20
+  through_long e d =
+      let (g, q, s) = long_record e in
+      set_by b buffer ∙ rw (q, list_given b d) (judged_long (short_tags (tags_of g)) (set_graph_name g (shown_tags b)) s)
 
   -- a record whose tags were written
-  module _ (sizes : TagSizes) (e : gives sizes ≡ tagSizes (written buffer)) where
+  module _ (sizes : TagSizes) (e : gives sizes ≡ tag_sizes (written buffer)) where
     pub record Wrote : Type 0 where
       pub graph : GraphName
-      pub opens : opened (recordIn buffer) ≡ gives graph
-      pub short : shortTags (tagsOf graph) ≡ true
-      pub gives-tags : written buffer ≡ gives (tagsOf graph)
+      pub opens : opened (record_in buffer) ≡ gives graph
+      pub short : short_tags (tags_of graph) ≡ true
+      pub gives_tags : written buffer ≡ gives (tags_of graph)
 
     pub wrote : Wrote
-    wrote = go (opened (recordIn buffer)) refl (rw written-by at e)
+    wrote = go (opened (record_in buffer)) refl (rw written_by at e)
       where
-        short : (g : GraphName) (t : Bool) → ◌≡◌ {A = Given TagSizes} (gives sizes) (tagSizes (cond t (gives (tagsOf g)) (refuses 17))) → t ≡ true
+        short : (g : GraphName) (t : Bool) → ◌≡◌ {A = Given TagSizes} (gives sizes) (tag_sizes (cond t (gives (tags_of g)) (refuses 17))) → t ≡ true
         short g true e = refl
         short g false e = let z : ◌≡◌ {A = ℕ} 0 1 = cc in absurd (omega arith)
 
-        go : (o : Given GraphName) → opened (recordIn buffer) ≡ o → gives sizes ≡ tagSizes (allWithin maxValue maxValue maxValue (andThen o λ g. gives (tagsOf g))) → Wrote
+        go : (o : Given GraphName) → opened (record_in buffer) ≡ o → gives sizes ≡ tag_sizes (all_within max_value max_value max_value (and_then o λ g. gives (tags_of g))) → Wrote
         go (refuses j) q e = let z : ◌≡◌ {A = ℕ} 0 1 = cc in absurd (omega arith)
         go (gives g) q e =
-            let s = short g (shortTags (tagsOf g)) e in
-            record { graph = g; opens = q; short = s; gives-tags = written-by buffer ∙ rw (q, s) }
+            let s = short g (short_tags (tags_of g)) e in
+            record { graph = g; opens = q; short = s; gives_tags = written_by buffer ∙ rw (q, s) }
 
-    pub through-unlisted : isSome (decodeTags b) ≡ false → setGraphNameIn b buffer ≡ refuses 29
-    through-unlisted d = set-by b buffer ∙ rw (wrote.opens, list-refused b d)
+    pub through_unlisted : is_some (decode_tags b) ≡ false → set_graph_name_in b buffer ≡ refuses 29
+    through_unlisted d = set_by b buffer ∙ rw (wrote.opens, list_refused b d)
 
     -- each size is that of the record's tag
-    pub name-size : sizes.name ≡ mapped length (tagsOf wrote.graph).name
-    name-size = let z : gives sizes ≡ tagSizes (gives (tagsOf wrote.graph)) = e ∙ ap tagSizes wrote.gives-tags in cc
+    pub name_size : sizes.name ≡ mapped length (tags_of wrote.graph).name
+    name_size = let z : gives sizes ≡ tag_sizes (gives (tags_of wrote.graph)) = e ∙ ap tag_sizes wrote.gives_tags in cc
 
-    pub subgraph-size : sizes.subgraph ≡ mapped length (tagsOf wrote.graph).subgraph
-    subgraph-size = let z : gives sizes ≡ tagSizes (gives (tagsOf wrote.graph)) = e ∙ ap tagSizes wrote.gives-tags in cc
+    pub subgraph_size : sizes.subgraph ≡ mapped length (tags_of wrote.graph).subgraph
+    subgraph_size = let z : gives sizes ≡ tag_sizes (gives (tags_of wrote.graph)) = e ∙ ap tag_sizes wrote.gives_tags in cc
 
-    pub translation-size : sizes.translation ≡ mapped length (tagsOf wrote.graph).translation
-    translation-size = let z : gives sizes ≡ tagSizes (gives (tagsOf wrote.graph)) = e ∙ ap tagSizes wrote.gives-tags in cc
+    pub translation_size : sizes.translation ≡ mapped length (tags_of wrote.graph).translation
+    translation_size = let z : gives sizes ≡ tag_sizes (gives (tags_of wrote.graph)) = e ∙ ap tag_sizes wrote.gives_tags in cc
 
     -- the change by the three values
-    pub through : (n s t : Option Bytes) → n ≡ (tagsOf wrote.graph).name → s ≡ (tagsOf wrote.graph).subgraph → t ≡ (tagsOf wrote.graph).translation
-        → isSome (decodeTags b) ≡ true → setGraphNameIn b buffer ≡ judgedTags true (changed nameKey subgraphKey translationKey n s t (shownTags b))
-    unfolding setGraphName
-    through n s t x y z d = set-by b buffer ∙ rw (wrote.opens, list-given b d, wrote.short, x, y, z)
+    pub through : (n s t : Option Bytes) → n ≡ (tags_of wrote.graph).name → s ≡ (tags_of wrote.graph).subgraph → t ≡ (tags_of wrote.graph).translation
+        → is_some (decode_tags b) ≡ true → set_graph_name_in b buffer ≡ judged_tags true (changed name_key subgraph_key translation_key n s t (shown_tags b))
+    unfolding set_graph_name
+    through n s t x y z d = set_by b buffer ∙ rw (wrote.opens, list_given b d, wrote.short, x, y, z)
 
 -- the value that a writer left at the front of an output
-pub value_written : (tag : Tag) (v : Option Bytes) (out out' : Bytes) → tagSize tag ≡ mapped length v → out' ≡ putValue v out → valueAt tag out' ≡ v
+pub value_written : (tag : Tag) (v : Option Bytes) (out out' : Bytes) → tag_size tag ≡ mapped length v → out' ≡ put_value v out → value_at tag out' ≡ v
 unfolding put
 value_written Absent none out out' e o = refl
 value_written Absent (some t) out out' e o = cc
@@ -134,14 +134,14 @@ value_written (Size n) (some t) out out' e o =
     rw (o, m, take_at t (drop (0 + length t) out) (length t) refl)
 
 -- the change by the values that were written to three outputs
-pub through-outputs : (b buffer name subgraph translation name' subgraph' translation' : Bytes) (n s t : Tag)
-    → AllAnswers (written buffer) name subgraph translation (Are n s t) name' subgraph' translation' → isSome (decodeTags b) ≡ true
-    → setGraphNameIn b buffer ≡ judgedTags true (changed nameKey subgraphKey translationKey (valueAt n name') (valueAt s subgraph') (valueAt t translation') (shownTags b))
-through-outputs b buffer name subgraph translation name' subgraph' translation' n s t a d =
-    let sizes : TagSizes = record { name = tagSize n; subgraph = tagSize s; translation = tagSize t } in
+pub through_outputs : (b buffer name subgraph translation name' subgraph' translation' : Bytes) (n s t : Tag)
+    → AllAnswers (written buffer) name subgraph translation (Are n s t) name' subgraph' translation' → is_some (decode_tags b) ≡ true
+    → set_graph_name_in b buffer ≡ judged_tags true (changed name_key subgraph_key translation_key (value_at n name') (value_at s subgraph') (value_at t translation') (shown_tags b))
+through_outputs b buffer name subgraph translation name' subgraph' translation' n s t a d =
+    let sizes : TagSizes = record { name = tag_size n; subgraph = tag_size s; translation = tag_size t } in
     let w = wrote b buffer sizes a.answer in
-    through b buffer sizes a.answer (valueAt n name') (valueAt s subgraph') (valueAt t translation')
-    (value_written n (tagsOf w.graph).name name name' (name-size b buffer sizes a.answer) (rw w.gives-tags at a.name-output))
-    (value_written s (tagsOf w.graph).subgraph subgraph subgraph' (subgraph-size b buffer sizes a.answer) (rw w.gives-tags at a.subgraph-output))
-    (value_written t (tagsOf w.graph).translation translation translation' (translation-size b buffer sizes a.answer) (rw w.gives-tags at a.translation-output))
+    through b buffer sizes a.answer (value_at n name') (value_at s subgraph') (value_at t translation')
+    (value_written n (tags_of w.graph).name name name' (name_size b buffer sizes a.answer) (rw w.gives_tags at a.name_output))
+    (value_written s (tags_of w.graph).subgraph subgraph subgraph' (subgraph_size b buffer sizes a.answer) (rw w.gives_tags at a.subgraph_output))
+    (value_written t (tags_of w.graph).translation translation translation' (translation_size b buffer sizes a.answer) (rw w.gives_tags at a.translation_output))
     d

@@ -3,42 +3,42 @@ use Rattle.std.specs.Prelude.{cond, List, ℕ}
 use Rattle.std.proofs.Math.Option.{Option, some, none}
 use Rattle.model.specs.Text.{text}
 use Rattle.model.specs.Bytes.{Bytes}
-use Rattle.model.specs.Opening.{isSome}
-use Rattle.model.specs.TagList.{Tag, lookUp, setTag, removeTag, setOrRemove}
+use Rattle.model.specs.Opening.{is_some}
+use Rattle.model.specs.TagList.{Tag, look_up, set_tag, remove_tag, set_or_remove}
 
-abbrev pub removeAbsent : Bytes → Option Bytes → List Tag → List Tag
-removeAbsent k none ts = removeTag k ts
-removeAbsent k (some v) ts = ts
+abbrev pub remove_absent : Bytes → Option Bytes → List Tag → List Tag
+remove_absent k none ts = remove_tag k ts
+remove_absent k (some v) ts = ts
 
-abbrev pub setPresent : Bytes → Option Bytes → List Tag → List Tag
-setPresent k none ts = ts
-setPresent k (some v) ts = setTag k v ts
+abbrev pub set_present : Bytes → Option Bytes → List Tag → List Tag
+set_present k none ts = ts
+set_present k (some v) ts = set_tag k v ts
 
 -- how many tags one change adds, and how many it takes away
 abbrev pub added : Bytes → Option Bytes → List Tag → ℕ
 added k none ts = 0
-added k (some v) ts = cond (isSome (lookUp k ts)) 0 1
+added k (some v) ts = cond (is_some (look_up k ts)) 0 1
 
 abbrev pub gone : Bytes → Option Bytes → List Tag → ℕ
-gone k none ts = cond (isSome (lookUp k ts)) 1 0
+gone k none ts = cond (is_some (look_up k ts)) 1 0
 gone k (some v) ts = 0
 
 -- one after the other, and the absent ones first
 abbrev pub changed : (a b c : Bytes) (n s t : Option Bytes) → List Tag → List Tag
-changed a b c n s t ts = setOrRemove c t (setOrRemove b s (setOrRemove a n ts))
+changed a b c n s t ts = set_or_remove c t (set_or_remove b s (set_or_remove a n ts))
 
 abbrev pub cleared : (a b c : Bytes) (n s t : Option Bytes) → List Tag → List Tag
-cleared a b c n s t ts = removeAbsent c t (removeAbsent b s (removeAbsent a n ts))
+cleared a b c n s t ts = remove_absent c t (remove_absent b s (remove_absent a n ts))
 
 abbrev pub filled : (a b c : Bytes) (n s t : Option Bytes) → List Tag → List Tag
-filled a b c n s t ts = setPresent c t (setPresent b s (setPresent a n ts))
+filled a b c n s t ts = set_present c t (set_present b s (set_present a n ts))
 
 -- the keys of a record's tags
-abbrev pub nameKey : Bytes
-nameKey = text "pggname"
+abbrev pub name_key : Bytes
+name_key = text "pggname"
 
-abbrev pub subgraphKey : Bytes
-subgraphKey = text "subgraph"
+abbrev pub subgraph_key : Bytes
+subgraph_key = text "subgraph"
 
-abbrev pub translationKey : Bytes
-translationKey = text "translation"
+abbrev pub translation_key : Bytes
+translation_key = text "translation"

@@ -2,38 +2,38 @@
 use Rattle.std.specs.Prelude.{cond, List, ℕ, ◌+◌, take}
 use Rattle.std.proofs.Math.Option.{Option, some, none}
 use Rattle.model.specs.Bytes.{Bytes}
-use Rattle.model.specs.Opening.{isSome}
-use Rattle.model.specs.TagList.{lookUp, removeTag}
+use Rattle.model.specs.Opening.{is_some}
+use Rattle.model.specs.TagList.{look_up, remove_tag}
 use Rattle.model.specs.TagList as list
 use Rattle.export.specs.declared.answer.Tag.{Tag}
 use Rattle.export.specs.declared.answer.Tag.TheVariants.{Absent, Size}
-use Rattle.graph_tags.specs.Change.{nameKey, subgraphKey, translationKey}
+use Rattle.graph_tags.specs.Change.{name_key, subgraph_key, translation_key}
 
 -- a tag's value, at the front of its output
-abbrev pub valueAt : Tag → Bytes → Option Bytes
-valueAt Absent out = none
-valueAt (Size n) out = some (take n out)
+abbrev pub value_at : Tag → Bytes → Option Bytes
+value_at Absent out = none
+value_at (Size n) out = some (take n out)
 
 -- how many tags a tag adds, and how many go by it
-abbrev pub addedBy : Tag → Bytes → List list.Tag → ℕ
-addedBy Absent k ts = 0
-addedBy (Size n) k ts = cond (isSome (lookUp k ts)) 0 1
+abbrev pub added_by : Tag → Bytes → List list.Tag → ℕ
+added_by Absent k ts = 0
+added_by (Size n) k ts = cond (is_some (look_up k ts)) 0 1
 
-abbrev pub goneBy : Tag → Bytes → List list.Tag → ℕ
-goneBy Absent k ts = cond (isSome (lookUp k ts)) 1 0
-goneBy (Size n) k ts = 0
+abbrev pub gone_by : Tag → Bytes → List list.Tag → ℕ
+gone_by Absent k ts = cond (is_some (look_up k ts)) 1 0
+gone_by (Size n) k ts = 0
 
 -- an absent tag removed
-abbrev pub removedBy : Tag → Bytes → List list.Tag → List list.Tag
-removedBy Absent k ts = removeTag k ts
-removedBy (Size n) k ts = ts
+abbrev pub removed_by : Tag → Bytes → List list.Tag → List list.Tag
+removed_by Absent k ts = remove_tag k ts
+removed_by (Size n) k ts = ts
 
 -- the same of the three tags of a record
-abbrev pub threeAdded : Tag → Tag → Tag → List list.Tag → ℕ
-threeAdded n s t ts = addedBy n nameKey ts + (addedBy s subgraphKey ts + addedBy t translationKey ts)
+abbrev pub three_added : Tag → Tag → Tag → List list.Tag → ℕ
+three_added n s t ts = added_by n name_key ts + (added_by s subgraph_key ts + added_by t translation_key ts)
 
-abbrev pub threeGone : Tag → Tag → Tag → List list.Tag → ℕ
-threeGone n s t ts = goneBy n nameKey ts + (goneBy s subgraphKey ts + goneBy t translationKey ts)
+abbrev pub three_gone : Tag → Tag → Tag → List list.Tag → ℕ
+three_gone n s t ts = gone_by n name_key ts + (gone_by s subgraph_key ts + gone_by t translation_key ts)
 
-abbrev pub threeRemoved : Tag → Tag → Tag → List list.Tag → List list.Tag
-threeRemoved n s t ts = removedBy t translationKey (removedBy s subgraphKey (removedBy n nameKey ts))
+abbrev pub three_removed : Tag → Tag → Tag → List list.Tag → List list.Tag
+three_removed n s t ts = removed_by t translation_key (removed_by s subgraph_key (removed_by n name_key ts))

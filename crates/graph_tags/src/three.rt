@@ -1,10 +1,10 @@
 // A record's three tags put in at once: what is absent is removed first, so that there is room for what is present.
 ghost use Rattle.std.specs.Prelude.{◌≡◌, true, ◌+◌, ◌≤◌, length, ltb};
-ghost use Rattle.model.specs.Opening.{isSome, numberOf};
-ghost use Rattle.model.specs.TagList.{maxTags, maxKey, maxValue, storedKey, encodeTags, shownTags, decodeTags};
-ghost use Rattle.model.specs.TagOutcome.{judgedTags, setGraphNameIn, listWith};
-ghost use Rattle.graph_tags.specs.Change.{setPresent, changed, filled, nameKey, subgraphKey, translationKey};
-ghost use Rattle.graph_tags.specs.Three.{valueAt, addedBy, goneBy, removedBy, threeAdded, threeGone, threeRemoved};
+ghost use Rattle.model.specs.Opening.{is_some, number_of};
+ghost use Rattle.model.specs.TagList.{max_tags, max_key, max_value, stored_key, encode_tags, shown_tags, decode_tags};
+ghost use Rattle.model.specs.TagOutcome.{judged_tags, set_graph_name_in, list_with};
+ghost use Rattle.graph_tags.specs.Change.{set_present, changed, filled, name_key, subgraph_key, translation_key};
+ghost use Rattle.graph_tags.specs.Three.{value_at, added_by, gone_by, removed_by, three_added, three_gone, three_removed};
 
 use block::read32;
 use export::{Tag, WrittenTags, set_tags};
@@ -14,8 +14,8 @@ use text::part;
 
 // How many tags more there are when a tag is set, if it is there.
 fn tags_added(list: &[u8], key: &[u8], tag: Tag) -> usize
-    requires { isSome (decodeTags list.now) ≡ true }
-    ensures { (result ≡ addedBy tag key.now (shownTags list.now)) × (result ≤ 1) }
+    requires { is_some (decode_tags list.now) ≡ true }
+    ensures { (result ≡ added_by tag key.now (shown_tags list.now)) × (result ≤ 1) }
 {
     match tag {
         Tag::Absent => 0,
@@ -28,8 +28,8 @@ fn tags_added(list: &[u8], key: &[u8], tag: Tag) -> usize
 
 // How many tags fewer there are when a tag is removed, unless it is there.
 fn tags_gone(list: &[u8], key: &[u8], tag: Tag) -> usize
-    requires { isSome (decodeTags list.now) ≡ true }
-    ensures { (result ≡ goneBy tag key.now (shownTags list.now)) × (result ≤ 1) }
+    requires { is_some (decode_tags list.now) ≡ true }
+    ensures { (result ≡ gone_by tag key.now (shown_tags list.now)) × (result ≤ 1) }
 {
     match tag {
         Tag::Absent => {
@@ -42,8 +42,8 @@ fn tags_gone(list: &[u8], key: &[u8], tag: Tag) -> usize
 
 // Whether there are too many tags once all three changes are made.
 fn is_full_then(list: &[u8], name: Tag, subgraph: Tag, translation: Tag) -> bool
-    requires { isSome (decodeTags list.now) ≡ true }
-    ensures { result ≡ ltb (maxTags + threeGone name subgraph translation (shownTags list.now)) (length (shownTags list.now) + threeAdded name subgraph translation (shownTags list.now)) }
+    requires { is_some (decode_tags list.now) ≡ true }
+    ensures { result ≡ ltb (max_tags + three_gone name subgraph translation (shown_tags list.now)) (length (shown_tags list.now) + three_added name subgraph translation (shown_tags list.now)) }
 {
     let added = tags_added(list, b"pggname", name)
         + (tags_added(list, b"subgraph", subgraph) + tags_added(list, b"translation", translation));
@@ -54,8 +54,8 @@ fn is_full_then(list: &[u8], name: Tag, subgraph: Tag, translation: Tag) -> bool
 
 // Removes a tag, unless it is there.
 fn remove_absent(list: &mut [u8], key: &[u8], tag: Tag)
-    requires { (isSome (decodeTags list.old) ≡ true) × (length key.now ≤ maxKey) }
-    ensures { list.new ≡ encodeTags (removedBy tag key.now (shownTags list.old)) }
+    requires { (is_some (decode_tags list.old) ≡ true) × (length key.now ≤ max_key) }
+    ensures { list.new ≡ encode_tags (removed_by tag key.now (shown_tags list.old)) }
 {
     match tag {
         Tag::Absent => {
@@ -68,8 +68,8 @@ fn remove_absent(list: &mut [u8], key: &[u8], tag: Tag)
 
 // Removes those of the three tags that are not there.
 fn clear_absent(list: &mut [u8], name: Tag, subgraph: Tag, translation: Tag)
-    requires { isSome (decodeTags list.old) ≡ true }
-    ensures { list.new ≡ encodeTags (threeRemoved name subgraph translation (shownTags list.old)) }
+    requires { is_some (decode_tags list.old) ≡ true }
+    ensures { list.new ≡ encode_tags (three_removed name subgraph translation (shown_tags list.old)) }
 {
     remove_absent(list, b"pggname", name);
     remove_absent(list, b"subgraph", subgraph);
@@ -78,9 +78,9 @@ fn clear_absent(list: &mut [u8], name: Tag, subgraph: Tag, translation: Tag)
 
 // Sets a tag to its value, which stands at the front of `value`, if it is there.
 fn set_present(list: &mut [u8], key: &[u8], tag: Tag, value: &[u8])
-    requires { (isSome (decodeTags list.old) ≡ true) × (storedKey key.now ≡ true) × (length value.now ≤ maxValue)
-        × (length (setPresent key.now (valueAt tag value.now) (shownTags list.old)) ≤ maxTags) }
-    ensures { list.new ≡ encodeTags (setPresent key.now (valueAt tag value.now) (shownTags list.old)) }
+    requires { (is_some (decode_tags list.old) ≡ true) × (stored_key key.now ≡ true) × (length value.now ≤ max_value)
+        × (length (set_present key.now (value_at tag value.now) (shown_tags list.old)) ≤ max_tags) }
+    ensures { list.new ≡ encode_tags (set_present key.now (value_at tag value.now) (shown_tags list.old)) }
 {
     match tag {
         Tag::Absent => {}
@@ -101,9 +101,9 @@ fn fill_present(
     translation: Tag,
     translation_value: &[u8],
 )
-    requires { (isSome (decodeTags list.old) ≡ true) × (length name_value.now ≤ maxValue) × (length subgraph_value.now ≤ maxValue) × (length translation_value.now ≤ maxValue)
-        × (length (filled nameKey subgraphKey translationKey (valueAt name name_value.now) (valueAt subgraph subgraph_value.now) (valueAt translation translation_value.now) (shownTags list.old)) ≤ maxTags) }
-    ensures { list.new ≡ encodeTags (filled nameKey subgraphKey translationKey (valueAt name name_value.now) (valueAt subgraph subgraph_value.now) (valueAt translation translation_value.now) (shownTags list.old)) }
+    requires { (is_some (decode_tags list.old) ≡ true) × (length name_value.now ≤ max_value) × (length subgraph_value.now ≤ max_value) × (length translation_value.now ≤ max_value)
+        × (length (filled name_key subgraph_key translation_key (value_at name name_value.now) (value_at subgraph subgraph_value.now) (value_at translation translation_value.now) (shown_tags list.old)) ≤ max_tags) }
+    ensures { list.new ≡ encode_tags (filled name_key subgraph_key translation_key (value_at name name_value.now) (value_at subgraph subgraph_value.now) (value_at translation translation_value.now) (shown_tags list.old)) }
 {
     set_present(list, b"pggname", name, name_value);
     set_present(list, b"subgraph", subgraph, subgraph_value);
@@ -120,9 +120,9 @@ fn put_three(
     translation: Tag,
     translation_value: &[u8],
 ) -> u32
-    requires { (isSome (decodeTags list.old) ≡ true) × (length name_value.now ≤ maxValue) × (length subgraph_value.now ≤ maxValue) × (length translation_value.now ≤ maxValue) }
-    ensures value { result ≡ numberOf (judgedTags true (changed nameKey subgraphKey translationKey (valueAt name name_value.now) (valueAt subgraph subgraph_value.now) (valueAt translation translation_value.now) (shownTags list.old))) }
-    ensures list_after { list.new ≡ listWith (judgedTags true (changed nameKey subgraphKey translationKey (valueAt name name_value.now) (valueAt subgraph subgraph_value.now) (valueAt translation translation_value.now) (shownTags list.old))) list.old }
+    requires { (is_some (decode_tags list.old) ≡ true) × (length name_value.now ≤ max_value) × (length subgraph_value.now ≤ max_value) × (length translation_value.now ≤ max_value) }
+    ensures value { result ≡ number_of (judged_tags true (changed name_key subgraph_key translation_key (value_at name name_value.now) (value_at subgraph subgraph_value.now) (value_at translation translation_value.now) (shown_tags list.old))) }
+    ensures list_after { list.new ≡ list_with (judged_tags true (changed name_key subgraph_key translation_key (value_at name name_value.now) (value_at subgraph subgraph_value.now) (value_at translation translation_value.now) (shown_tags list.old))) list.old }
 {
     if is_full_then(list, name, subgraph, translation) {
         return 21;
@@ -142,7 +142,7 @@ fn put_three(
 
 // Room for a value.
 fn no_value() -> [u8; MAX_VALUE]
-    ensures { length result ≡ maxValue }
+    ensures { length result ≡ max_value }
 {
     [0; MAX_VALUE]
 }
@@ -155,9 +155,9 @@ fn set_through(
     subgraph: &mut [u8],
     translation: &mut [u8],
 ) -> u32
-    requires { (length name.old ≡ maxValue) × (length subgraph.old ≡ maxValue) × (length translation.old ≡ maxValue) }
-    ensures value { result ≡ numberOf (setGraphNameIn list.old buffer.now) }
-    ensures list_after { list.new ≡ listWith (setGraphNameIn list.old buffer.now) list.old }
+    requires { (length name.old ≡ max_value) × (length subgraph.old ≡ max_value) × (length translation.old ≡ max_value) }
+    ensures value { result ≡ number_of (set_graph_name_in list.old buffer.now) }
+    ensures list_after { list.new ≡ list_with (set_graph_name_in list.old buffer.now) list.old }
 {
     match set_tags(buffer, name, subgraph, translation) {
         WrittenTags::Refused(number) => {
@@ -184,8 +184,8 @@ fn set_through(
 
 // Puts a record's three tags into a list at once, and removes those that the record has not.
 pub fn set_graph_name(list: &mut [u8], buffer: &[u8]) -> u32
-    ensures value { result ≡ numberOf (setGraphNameIn list.old buffer.now) }
-    ensures list_after { list.new ≡ listWith (setGraphNameIn list.old buffer.now) list.old }
+    ensures value { result ≡ number_of (set_graph_name_in list.old buffer.now) }
+    ensures list_after { list.new ≡ list_with (set_graph_name_in list.old buffer.now) list.old }
 {
     let mut name = no_value();
     let mut subgraph = no_value();

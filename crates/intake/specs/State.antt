@@ -2,47 +2,47 @@
 use Rattle.std.specs.Prelude.{◌≡◌, cond, List, ℕ, zero, suc, ◌+◌, ◌*◌, ◌≤◌, length, take, eqb, ltb}
 use Rattle.std.proofs.Math.Option.{Option, some, none}
 use Rattle.model.specs.Bytes.{Bytes}
-use Rattle.model.specs.Record.{GraphName, judge, maxNameBytes, maxNames, maxPairs, maxBodiesBytes}
+use Rattle.model.specs.Record.{GraphName, judge, max_name_bytes, max_names, max_pairs, max_bodies_bytes}
 use Rattle.model.specs.Reading.{Taken, took, wrong}
 use Rattle.sorted.specs.declared.putting.Sizes.{Sizes}
-use Rattle.sorted.specs.Tables.{Tables, graphIn}
-use Rattle.tables.specs.Judging.{owned, namesAnd, sizeFault, Good}
+use Rattle.sorted.specs.Tables.{Tables, graph_in}
+use Rattle.tables.specs.Judging.{owned, names_and, size_fault, Good}
 use Rattle.intake.specs.declared.taking.State.{State}
 use Rattle.intake.specs.declared.taking.FieldTaken.{FieldTaken}
 use Rattle.intake.specs.declared.taking.FieldTaken.TheVariants.{Took, Wrong}
 
 -- the own name by its number, which is its length and one more, or 0 for none
-abbrev pub ownOf : Bytes → ℕ → Option Bytes
-ownOf own zero = none
-ownOf own (suc k) = some (take k own)
+abbrev pub own_of : Bytes → ℕ → Option Bytes
+own_of own zero = none
+own_of own (suc k) = some (take k own)
 
 -- the graph name so far
-abbrev pub graphNow : Tables → Bytes → ℕ → GraphName
-graphNow t own n = owned (ownOf own n) (graphIn t)
+abbrev pub graph_now : Tables → Bytes → ℕ → GraphName
+graph_now t own n = owned (own_of own n) (graph_in t)
 
 -- the lengths of the tables and of the buffer for the own name: a full record, and a field more
 pub record Lengths (rs ss ts : List ℕ) (bytes name : Bytes) : Type 0 where
-  pub refs : length rs ≡ maxNames + 2
-  pub subs : length ss ≡ maxPairs + 1
-  pub trans : length ts ≡ maxPairs + 1
-  pub pool : length bytes ≡ maxBodiesBytes + 2 * maxNameBytes
-  pub own : length name ≡ maxNameBytes
+  pub refs : length rs ≡ max_names + 2
+  pub subs : length ss ≡ max_pairs + 1
+  pub trans : length ts ≡ max_pairs + 1
+  pub pool : length bytes ≡ max_bodies_bytes + 2 * max_name_bytes
+  pub own : length name ≡ max_name_bytes
 
 -- nothing taken yet
-abbrev pub nothingTaken : State
-nothingTaken = record { sizes = record { names = 0; bytes = 0; subgraph = 0; translation = 0 }; own = 0 }
+abbrev pub nothing_taken : State
+nothing_taken = record { sizes = record { names = 0; bytes = 0; subgraph = 0; translation = 0 }; own = 0 }
 
 -- the number for the sizes of names with an own name and of as many pairs as the sizes say; 0 where they are allowed
-abbrev pub faultWith : Option Bytes → List Bytes → Sizes → ℕ
-faultWith own ns sizes = sizeFault (namesAnd own ns) sizes.subgraph sizes.translation
+abbrev pub fault_with : Option Bytes → List Bytes → Sizes → ℕ
+fault_with own ns sizes = size_fault (names_and own ns) sizes.subgraph sizes.translation
 
 -- a state, if the number for its sizes is 0
-abbrev pub stateTaken : ℕ → State → FieldTaken
-stateTaken number state = cond (eqb number 0) (Took state) (Wrong number)
+abbrev pub state_taken : ℕ → State → FieldTaken
+state_taken number state = cond (eqb number 0) (Took state) (Wrong number)
 
 -- an own name taken
-abbrev pub nameTaken : List Bytes → Sizes → Bytes → FieldTaken
-nameTaken ns sizes x = cond (ltb maxNameBytes (length x)) (Wrong 11) (stateTaken (faultWith (some x) ns sizes) (record { sizes = sizes; own = length x + 1 }))
+abbrev pub name_taken : List Bytes → Sizes → Bytes → FieldTaken
+name_taken ns sizes x = cond (ltb max_name_bytes (length x)) (Wrong 11) (state_taken (fault_with (some x) ns sizes) (record { sizes = sizes; own = length x + 1 }))
 
 -- the tables are good, and the own name is within its buffer
 pub record Held (t : Tables) (own : Bytes) (n : ℕ) : Type 0 where
@@ -53,12 +53,12 @@ pub record Held (t : Tables) (own : Bytes) (n : ℕ) : Type 0 where
 -- and the sizes are within those of docs/FORMAT.md: so it is before and after each field
 pub record FittingState (t : Tables) (own : Bytes) (n : ℕ) : Type 0 where
   pub held : Held t own n
-  pub sizes : judge (graphNow t own n) ≡ 0
+  pub sizes : judge (graph_now t own n) ≡ 0
 
 -- what a field taken means, where `at` gives the tables for their sizes
-abbrev pub takenOf : (Sizes → Tables) → Bytes → FieldTaken → Taken
-takenOf at own (Took s) = took (graphNow (at s.sizes) own s.own)
-takenOf at own (Wrong n) = wrong n
+abbrev pub taken_of : (Sizes → Tables) → Bytes → FieldTaken → Taken
+taken_of at own (Took s) = took (graph_now (at s.sizes) own s.own)
+taken_of at own (Wrong n) = wrong n
 
 abbrev pub FittingAfter : (Sizes → Tables) → Bytes → FieldTaken → Type 0
 FittingAfter at own (Took s) = FittingState (at s.sizes) own s.own
@@ -66,5 +66,5 @@ FittingAfter at own (Wrong n) = Unit {0}
 
 -- the field was taken as m, and the reading can go on if it does
 pub record TakenAs (at : Sizes → Tables) (own : Bytes) (r : FieldTaken) (m : Taken) : Type 0 where
-  pub same : takenOf at own r ≡ m
+  pub same : taken_of at own r ≡ m
   pub fitting : FittingAfter at own r

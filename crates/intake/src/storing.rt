@@ -1,8 +1,8 @@
 // What a reading has, written as a record.
 ghost use Rattle.std.specs.Prelude.{◌≡◌, length};
-ghost use Rattle.model.specs.Layout.{recordLength, encode};
+ghost use Rattle.model.specs.Layout.{record_length, encode};
 ghost use Rattle.sorted.specs.Tables.{tables};
-ghost use Rattle.intake.specs.State.{graphNow, FittingState};
+ghost use Rattle.intake.specs.State.{graph_now, FittingState};
 
 use crate::taking::State;
 
@@ -16,8 +16,8 @@ pub fn store_state(
     state: State,
     buffer: &mut [u8],
 )
-    requires { FittingState (tables refs.old subs.old trans.old pool.old state.sizes) own.now state.own × (length buffer.old ≡ recordLength) }
-    ensures { buffer.new ≡ encode (graphNow (tables refs.old subs.old trans.old pool.old state.sizes) own.now state.own) }
+    requires { FittingState (tables refs.old subs.old trans.old pool.old state.sizes) own.now state.own × (length buffer.old ≡ record_length) }
+    ensures { buffer.new ≡ encode (graph_now (tables refs.old subs.old trans.old pool.old state.sizes) own.now state.own) }
 {
     let n = state.own;
     if n == 0 {

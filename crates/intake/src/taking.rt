@@ -1,13 +1,13 @@
 // A field taken into the working tables: its own name is kept apart, its pair put in, and the sizes judged on what stands then.
 ghost use Rattle.std.specs.Prelude.{◌≡◌, ◌+◌, ◌*◌, ◌≤◌, length};
 ghost use Rattle.model.specs.Bytes.{put};
-ghost use Rattle.model.specs.Record.{withPair, maxNameBytes, maxNames, maxPairs, maxBodiesBytes};
+ghost use Rattle.model.specs.Record.{with_pair, max_name_bytes, max_names, max_pairs, max_bodies_bytes};
 ghost use Rattle.model.specs.Reading.{judged};
 ghost use Rattle.tables.specs.Judging.{NamesKept};
-ghost use Rattle.sorted.specs.Tables.{tables, namesIn};
+ghost use Rattle.sorted.specs.Tables.{tables, names_in};
 ghost use Rattle.fields.specs.Fields.{apply};
-ghost use Rattle.fields.specs.Contents.{meaningOf, PlacesIn};
-ghost use Rattle.intake.specs.State.{nothingTaken, ownOf, graphNow, faultWith, stateTaken, nameTaken, FittingState, TakenAs};
+ghost use Rattle.fields.specs.Contents.{meaning_of, PlacesIn};
+ghost use Rattle.intake.specs.State.{nothing_taken, own_of, graph_now, fault_with, state_taken, name_taken, FittingState, TakenAs};
 
 use fields::Content;
 use model::Kind;
@@ -30,35 +30,35 @@ pub enum FieldTaken {
 
 // A table for the names of a full record and of a field more.
 pub fn name_table() -> [u32; MAX_NAMES + 2]
-    ensures { length result ≡ maxNames + 2 }
+    ensures { length result ≡ max_names + 2 }
 {
     [0; MAX_NAMES + 2]
 }
 
 // A table for the pairs of one kind of a full record and of a field more.
 pub fn pair_table() -> [u32; MAX_PAIRS + 1]
-    ensures { length result ≡ maxPairs + 1 }
+    ensures { length result ≡ max_pairs + 1 }
 {
     [0; MAX_PAIRS + 1]
 }
 
 // A pool for the names of a full record and of a field more.
 pub fn pool() -> [u8; MAX_BODIES_BYTES + 2 * MAX_NAME_BYTES]
-    ensures { length result ≡ maxBodiesBytes + 2 * maxNameBytes }
+    ensures { length result ≡ max_bodies_bytes + 2 * max_name_bytes }
 {
     [0; MAX_BODIES_BYTES + 2 * MAX_NAME_BYTES]
 }
 
 // A buffer for an own name.
 pub fn own_buffer() -> [u8; MAX_NAME_BYTES]
-    ensures { length result ≡ maxNameBytes }
+    ensures { length result ≡ max_name_bytes }
 {
     [0; MAX_NAME_BYTES]
 }
 
 // Nothing taken yet.
 pub fn begin() -> State
-    ensures { result ≡ nothingTaken }
+    ensures { result ≡ nothing_taken }
 {
     State {
         sizes: Sizes {
@@ -74,7 +74,7 @@ pub fn begin() -> State
 // The number for the sizes of the tables with the own name, which is counted once; 0 where they are allowed.
 fn size_fault(refs: &[u32], pool: &[u8], sizes: Sizes, own: &[u8], n: usize) -> u32
     requires { NamesKept refs.now pool.now sizes }
-    ensures { result ≡ faultWith (ownOf own.now n) (namesIn pool.now sizes.names refs.now) sizes }
+    ensures { result ≡ fault_with (own_of own.now n) (names_in pool.now sizes.names refs.now) sizes }
 {
     if n == 0 {
         return tables::size_fault(refs, pool, sizes, false, own);
@@ -85,7 +85,7 @@ fn size_fault(refs: &[u32], pool: &[u8], sizes: Sizes, own: &[u8], n: usize) -> 
 // A state, if its sizes allow it.
 fn take_state(refs: &[u32], pool: &[u8], own: &[u8], state: State) -> FieldTaken
     requires { NamesKept refs.now pool.now state.sizes }
-    ensures { result ≡ stateTaken (faultWith (ownOf own.now state.own) (namesIn pool.now state.sizes.names refs.now) state.sizes) state }
+    ensures { result ≡ state_taken (fault_with (own_of own.now state.own) (names_in pool.now state.sizes.names refs.now) state.sizes) state }
 {
     let number = size_fault(refs, pool, state.sizes, own, state.own);
     if number == 0 {
@@ -96,8 +96,8 @@ fn take_state(refs: &[u32], pool: &[u8], own: &[u8], state: State) -> FieldTaken
 
 // An own name, in the place of the one before.
 fn take_name(refs: &[u32], pool: &[u8], own: &mut [u8], sizes: Sizes, name: &[u8]) -> FieldTaken
-    requires { NamesKept refs.now pool.now sizes × (length own.old ≡ maxNameBytes) }
-    ensures { (result ≡ nameTaken (namesIn pool.now sizes.names refs.now) sizes name.now) × (length name.now ≤ maxNameBytes → own.new ≡ put own.old 0 name.now) }
+    requires { NamesKept refs.now pool.now sizes × (length own.old ≡ max_name_bytes) }
+    ensures { (result ≡ name_taken (names_in pool.now sizes.names refs.now) sizes name.now) × (length name.now ≤ max_name_bytes → own.new ≡ put own.old 0 name.now) }
 {
     if MAX_NAME_BYTES < name.len() {
         return FieldTaken::Wrong(11);
@@ -127,7 +127,7 @@ fn take_pair(
     to: &[u8],
 ) -> FieldTaken
     requires { FittingState (tables refs.old subs.old trans.old pool.old state.sizes) own.now state.own }
-    ensures { TakenAs (tables refs.new subs.new trans.new pool.new) own.now result (judged (withPair kind (record { from = from.entry.now; to = to.now }) (graphNow (tables refs.old subs.old trans.old pool.old state.sizes) own.now state.own))) }
+    ensures { TakenAs (tables refs.new subs.new trans.new pool.new) own.now result (judged (with_pair kind (record { from = from.entry.now; to = to.now }) (graph_now (tables refs.old subs.old trans.old pool.old state.sizes) own.now state.own))) }
 {
     if MAX_NAME_BYTES < from.len() {
         return FieldTaken::Wrong(11);
@@ -152,7 +152,7 @@ pub fn take_field(
     content: Content,
 ) -> FieldTaken
     requires { FittingState (tables refs.old subs.old trans.old pool.old state.sizes) own.old state.own × PlacesIn f.now content }
-    ensures { TakenAs (tables refs.new subs.new trans.new pool.new) own.new result (apply (graphNow (tables refs.old subs.old trans.old pool.old state.sizes) own.old state.own) (meaningOf f.now content)) }
+    ensures { TakenAs (tables refs.new subs.new trans.new pool.new) own.new result (apply (graph_now (tables refs.old subs.old trans.old pool.old state.sizes) own.old state.own) (meaning_of f.now content)) }
 {
     match content {
         Content::Fault(number) => FieldTaken::Wrong(number),

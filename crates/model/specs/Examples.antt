@@ -7,19 +7,19 @@ use Rattle.model.specs.declared.Kind.TheVariants.{Subgraph, Translation}
 use Rattle.model.specs.declared.Strictness.{Strictness}
 use Rattle.model.specs.declared.Strictness.TheVariants.{Fine, Faulty}
 use Rattle.model.specs.Text.{text}
-use Rattle.model.specs.Bytes.{Bytes, compareNumbers, compareBytes, sameBytes, everyByte, split}
+use Rattle.model.specs.Bytes.{Bytes, compare_numbers, compare_bytes, same_bytes, every_byte, split}
 use Rattle.model.specs.Numbers.{decimal, digits, le16s}
-use Rattle.model.specs.Record.{Pair, GraphName, empty, comparePairs, insert, insertAll, ascends, names, judge, isValid}
-use Rattle.model.specs.Layout.{recordLength, placeOf, entries, pairPlaces, contents, encode, nameAt, pairsFrom, shown, decode}
-use Rattle.model.specs.Writing.{relationsTag, moreRelations}
-use Rattle.model.specs.Reading.{Reading, done, refused, typedField, gafLine, typedFields, lineFields, linesFrom, withoutLastEmpty, fromHeaderLines, tagRelations, tagValue, nameValue, fromTags}
-use Rattle.model.specs.Path.{Step, leavingBy, leaving, firstOf, firstPath, pathFrom, bestPath, subgraphPath, fullPath, pathBytes, pathEntries, pathBodies}
+use Rattle.model.specs.Record.{Pair, GraphName, empty, compare_pairs, insert, insert_all, ascends, names, judge, is_valid}
+use Rattle.model.specs.Layout.{record_length, place_of, entries, pair_places, contents, encode, name_at, pairs_from, shown, decode}
+use Rattle.model.specs.Writing.{relations_tag, more_relations}
+use Rattle.model.specs.Reading.{Reading, done, refused, typed_field, gaf_line, typed_fields, line_fields, lines_from, without_last_empty, from_header_lines, tag_relations, tag_value, name_value, from_tags}
+use Rattle.model.specs.Path.{Step, leaving_by, leaving, first_of, first_path, path_from, best_path, subgraph_path, full_path, path_bytes, path_entries, path_bodies}
 use Rattle.model.specs.Opening.{Given, refuses, gives, opened}
-use Rattle.model.specs.Outcome.{Answer, refusal, found, askSubgraph}
-use Rattle.model.specs.TagList.{Tag, tag, lookUp, setTag, removeTag, setGraphName, lower, fineKey, storedKey, tagEntries, tagBodies, tagContents}
-use Rattle.model.specs.TagOutcome.{readyKey, judgedTags}
-use Rattle.model.specs.Strict.{strict, strictFields, fineField, matches, after, nullable, valueOf}
-use Rattle.model.specs.Describe.{describeRelationship, stepsFrom, afterLastEmpty, stepLines, graphLines}
+use Rattle.model.specs.Outcome.{Answer, refusal, found, ask_subgraph}
+use Rattle.model.specs.TagList.{Tag, tag, look_up, set_tag, remove_tag, set_graph_name, lower, fine_key, stored_key, tag_entries, tag_bodies, tag_contents}
+use Rattle.model.specs.TagOutcome.{ready_key, judged_tags}
+use Rattle.model.specs.Strict.{strict, strict_fields, fine_field, matches, after, nullable, value_of}
+use Rattle.model.specs.Describe.{describe_relationship, steps_from, after_last_empty, step_lines, graph_lines}
 
 abbrev p : String → String → Pair
 p a b = record { from = text a; to = text b }
@@ -46,7 +46,7 @@ long = replicate 257 97
 
 -- a buffer of numbers, then text, then zeros
 abbrev buffer : List ℕ → String → Bytes
-buffer ns t = le16s ns ++ (text t ++ replicate (recordLength - length (le16s ns ++ text t)) 0)
+buffer ns t = le16s ns ++ (text t ++ replicate (record_length - length (le16s ns ++ text t)) 0)
 
 abbrev t : String → String → Tag
 t k v = tag (text k) (text v)
@@ -60,7 +60,7 @@ many (suc n) first = tag (first ∷ []) [] ∷ many n (suc first)
 pub data Example : Type 0 where
   header : Bytes → Reading → Example
   tags : Option Bytes → Option Bytes → Option Bytes → Reading → Example
-  tagOf : List Pair → String → Example
+  tag_of : List Pair → String → Example
   path : GraphName → GraphName → Option (List Step) → Example
   full : GraphName → GraphName → Option (List Step) → Example
   roomy : GraphName → GraphName → ℕ → Answer → Example
@@ -69,31 +69,31 @@ pub data Example : Type 0 where
   description : GraphName → GraphName → String → String → String → Example
   key : Bytes → Given Bytes → Example
   stored : Bytes → Bool → Example
-  tagSet : Bytes → String → List Tag → List Tag → Example
-  tagRemoved : String → List Tag → List Tag → Example
-  tagFound : String → List Tag → Option Bytes → Example
-  threeTags : GraphName → List Tag → List Tag → Example
-  tagsJudged : List Tag → Given (List Tag) → Example
-  tagBlock : List Tag → Bytes → Example
+  tag_set : Bytes → String → List Tag → List Tag → Example
+  tag_removed : String → List Tag → List Tag → Example
+  tag_found : String → List Tag → Option Bytes → Example
+  three_tags : GraphName → List Tag → List Tag → Example
+  tags_judged : List Tag → Given (List Tag) → Example
+  tag_block : List Tag → Bytes → Example
 
 abbrev pub Holds : Example → Type 0
-Holds (header t r) = fromHeaderLines t ≡ r
-Holds (tags n s t r) = fromTags n s t ≡ r
-Holds (tagOf ps t) = relationsTag ps ≡ some (text t)
-Holds (path g h r) = subgraphPath g h ≡ r
-Holds (full g h r) = fullPath g h ≡ r
-Holds (roomy g h room r) = askSubgraph (encode g) (encode h) room ≡ r
+Holds (header t r) = from_header_lines t ≡ r
+Holds (tags n s t r) = from_tags n s t ≡ r
+Holds (tag_of ps t) = relations_tag ps ≡ some (text t)
+Holds (path g h r) = subgraph_path g h ≡ r
+Holds (full g h r) = full_path g h ≡ r
+Holds (roomy g h room r) = ask_subgraph (encode g) (encode h) room ≡ r
 Holds (layout ns t g) = decode (buffer ns t) ≡ g
 Holds (line t r) = strict (text t) ≡ r
-Holds (description g h d e t) = describeRelationship g h (text d) (text e) ≡ text t
-Holds (key k r) = readyKey k ≡ r
-Holds (stored k r) = storedKey k ≡ r
-Holds (tagSet k v ts us) = setTag k (text v) ts ≡ us
-Holds (tagRemoved k ts us) = removeTag (text k) ts ≡ us
-Holds (tagFound k ts r) = lookUp (text k) ts ≡ r
-Holds (threeTags g ts us) = setGraphName g ts ≡ us
-Holds (tagsJudged ts r) = judgedTags true ts ≡ r
-Holds (tagBlock ts b) = tagContents ts ≡ b
+Holds (description g h d e t) = describe_relationship g h (text d) (text e) ≡ text t
+Holds (key k r) = ready_key k ≡ r
+Holds (stored k r) = stored_key k ≡ r
+Holds (tag_set k v ts us) = set_tag k (text v) ts ≡ us
+Holds (tag_removed k ts us) = remove_tag (text k) ts ≡ us
+Holds (tag_found k ts r) = look_up (text k) ts ≡ r
+Holds (three_tags g ts us) = set_graph_name g ts ≡ us
+Holds (tags_judged ts r) = judged_tags true ts ≡ r
+Holds (tag_block ts b) = tag_contents ts ≡ b
 
 abbrev pub All : List Example → Type 0
 All [] = Unit {0}
@@ -114,7 +114,7 @@ examples =
     ∷ tags none (some (text "")) none (fault 9 0 0 0 0)
     ∷ tags none (some (text "a,b;a,b")) none (done (named none (p "a" "b" ∷ []) []))
     ∷ header (text "@SG\ta,b\tc") (done (named none (p "a,b" "c" ∷ []) []))
-    ∷ tagOf (p "a,b" "c" ∷ []) "a,b,c"
+    ∷ tag_of (p "a,b" "c" ∷ []) "a,b,c"
     ∷ tags none (some (text "a,b,c")) none (fault 9 0 0 5 0)
     -- 10 to 13
     ∷ path (bare "A") (bare "A") (some [])
@@ -163,20 +163,20 @@ examples =
     ∷ stored (text "pggname") true
     ∷ stored (text "pggName") false
     -- tags set, removed and looked up; a held key at 32 tags and a new one; a record's three; the bytes of a list before its zeros
-    ∷ tagSet (text "b") "2" (t "a" "1" ∷ t "c" "3" ∷ []) (t "a" "1" ∷ t "b" "2" ∷ t "c" "3" ∷ [])
-    ∷ tagSet (text "c") "" (t "a" "1" ∷ t "c" "3" ∷ []) (t "a" "1" ∷ t "c" "" ∷ [])
-    ∷ tagRemoved "a" (t "a" "1" ∷ t "c" "3" ∷ []) (t "c" "3" ∷ [])
-    ∷ tagRemoved "b" (t "a" "1" ∷ t "c" "3" ∷ []) (t "a" "1" ∷ t "c" "3" ∷ [])
-    ∷ tagFound "c" (t "a" "1" ∷ t "c" "3" ∷ []) (some (text "3"))
-    ∷ tagFound "b" (t "a" "1" ∷ t "c" "3" ∷ []) none
-    ∷ tagsJudged (setTag (40 ∷ []) (text "v") (many 32 32)) (gives (setTag (40 ∷ []) (text "v") (many 32 32)))
-    ∷ tagsJudged (setTag (64 ∷ []) (text "v") (many 32 32)) (refuses 21)
-    ∷ threeTags (named (some (text "A")) (p "A" "B" ∷ p "A" "C" ∷ []) []) (t "other" "x" ∷ t "translation" "y" ∷ [])
+    ∷ tag_set (text "b") "2" (t "a" "1" ∷ t "c" "3" ∷ []) (t "a" "1" ∷ t "b" "2" ∷ t "c" "3" ∷ [])
+    ∷ tag_set (text "c") "" (t "a" "1" ∷ t "c" "3" ∷ []) (t "a" "1" ∷ t "c" "" ∷ [])
+    ∷ tag_removed "a" (t "a" "1" ∷ t "c" "3" ∷ []) (t "c" "3" ∷ [])
+    ∷ tag_removed "b" (t "a" "1" ∷ t "c" "3" ∷ []) (t "a" "1" ∷ t "c" "3" ∷ [])
+    ∷ tag_found "c" (t "a" "1" ∷ t "c" "3" ∷ []) (some (text "3"))
+    ∷ tag_found "b" (t "a" "1" ∷ t "c" "3" ∷ []) none
+    ∷ tags_judged (set_tag (40 ∷ []) (text "v") (many 32 32)) (gives (set_tag (40 ∷ []) (text "v") (many 32 32)))
+    ∷ tags_judged (set_tag (64 ∷ []) (text "v") (many 32 32)) (refuses 21)
+    ∷ three_tags (named (some (text "A")) (p "A" "B" ∷ p "A" "C" ∷ []) []) (t "other" "x" ∷ t "translation" "y" ∷ [])
     (t "other" "x" ∷ t "pggname" "A" ∷ t "subgraph" "A,B;A,C" ∷ [])
-    ∷ tagBlock (t "a" "XY" ∷ []) (1 ∷ 0 ∷ 0 ∷ 0 ∷ 1 ∷ 0 ∷ 0 ∷ 0 ∷ 2 ∷ 0 ∷ 0 ∷ 0 ∷ text "aXY")
+    ∷ tag_block (t "a" "XY" ∷ []) (1 ∷ 0 ∷ 0 ∷ 0 ∷ 1 ∷ 0 ∷ 0 ∷ 0 ∷ 2 ∷ 0 ∷ 0 ∷ 0 ∷ text "aXY")
     ∷ []
 
-pub examples-hold : All examples
-unfolding opened fromHeaderLines linesFrom withoutLastEmpty lineFields typedFields typedField gafLine split sameBytes compareBytes compareNumbers judge names insertAll insert comparePairs fromTags nameValue tagValue tagRelations relationsTag moreRelations subgraphPath fullPath bestPath pathFrom firstPath firstOf leaving leavingBy describeRelationship decimal digits stepsFrom afterLastEmpty stepLines graphLines strict strictFields fineField matches after nullable valueOf le16s askSubgraph pathBytes pathEntries pathBodies decode isValid ascends shown pairsFrom nameAt encode contents entries pairPlaces placeOf everyByte lower fineKey storedKey readyKey lookUp setTag removeTag setGraphName judgedTags tagContents tagEntries tagBodies
-examples-hold =
+pub examples_hold : All examples
+unfolding opened from_header_lines lines_from without_last_empty line_fields typed_fields typed_field gaf_line split same_bytes compare_bytes compare_numbers judge names insert_all insert compare_pairs from_tags name_value tag_value tag_relations relations_tag more_relations subgraph_path full_path best_path path_from first_path first_of leaving leaving_by describe_relationship decimal digits steps_from after_last_empty step_lines graph_lines strict strict_fields fine_field matches after nullable value_of le16s ask_subgraph path_bytes path_entries path_bodies decode is_valid ascends shown pairs_from name_at encode contents entries pair_places place_of every_byte lower fine_key stored_key ready_key look_up set_tag remove_tag set_graph_name judged_tags tag_contents tag_entries tag_bodies
+examples_hold =
     (refl, (refl, (refl, (refl, (refl, (refl, (refl, (refl, (refl, (refl, (refl, (refl, (refl, (refl, (refl, (refl, (refl, (refl, (refl, (refl, (refl, (refl, (refl, (refl, (refl, (refl, (refl, (refl, (refl, (refl, (refl, (refl, (refl, (refl, (refl, (refl, (refl, (refl, (refl, (refl, (refl, (refl, (refl, (refl, (refl, (refl, (refl, (refl, (refl, (refl, (refl, (refl, (refl, (refl, (refl, (refl, (refl, (refl, (refl, tt)))))))))))))))))))))))))))))))))))))))))))))))))))))))))))

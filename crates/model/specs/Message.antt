@@ -5,8 +5,8 @@ use Rattle.model.specs.Bytes.{Bytes}
 use Rattle.model.specs.Numbers.{decimal}
 
 -- empty for every number but 1 to 10
-unfoldable pub errorMessage : ℕ → ℕ → Bytes → Bytes
-errorMessage number line part =
+unfoldable pub error_message : ℕ → ℕ → Bytes → Bytes
+error_message number line part =
     cond (eqb number 1) (text "Error parsing header line " ++ decimal line ++ text ": not enough fields")
     (cond (eqb number 2) (text "Error parsing header line " ++ decimal line ++ text ": unknown first field " ++ part)
     (cond (eqb number 3) (text "Invalid GFA typed field: " ++ part)

@@ -3,24 +3,24 @@ use Rattle.std.specs.Prelude.{◌≡◌, Bool, true, false, cond, ◌&&◌, ◌|
 use mathlib.Core.List.{List, [], ◌∷◌, Memᴰ}
 use Rattle.std.proofs.Math.Option.{Option, some, none}
 use Rattle.model.specs.Text.{text}
-use Rattle.model.specs.Bytes.{Bytes, compareBytes, split}
+use Rattle.model.specs.Bytes.{Bytes, compare_bytes, split}
 use Rattle.model.specs.declared.Order.{Order}
 use Rattle.model.specs.declared.Order.TheVariants.{Less}
 use Rattle.model.specs.declared.Kind.{Kind}
 use Rattle.model.specs.declared.Kind.TheVariants.{Subgraph, Translation}
 use Rattle.model.specs.declared.Strictness.{Strictness}
 use Rattle.model.specs.declared.Strictness.TheVariants.{Fine, Faulty}
-use Rattle.model.specs.Record.{Pair, GraphName, empty, comparePairs, judge, names}
-use Rattle.model.specs.Layout.{recordLength, encode, decode}
-use Rattle.model.specs.Reading.{Refusal, Reading, done, refused, addTo, quotes, typedFields, lineFields, fromHeaderLines, tagNumber, tagRelations, fromTags}
-use Rattle.model.specs.Writing.{toGfaHeaderLines, toGafHeaderLines, relationsTag}
-use Rattle.model.specs.Path.{Step, pathBytes}
-use Rattle.model.specs.Outcome.{Outcome, readInto, readTagsInto, refusalInto, newRecord, addSubgraph, addTranslation, addRelationships, makeSubgraphOf, addTranslationTo}
-use Rattle.model.specs.Outcome.{Answer, refusal, notFound, found, askSubgraph, askFull, outputAfter, answerNumber, answerValue}
-use Rattle.model.specs.Questions.{countsIn, nameIn, nameAtIn, pairAtIn, isSameIn}
-use Rattle.model.specs.Opening.{Given, numberOf, valueOr}
-use Rattle.model.specs.Written.{gfaWritten, gafWritten, messageWritten, relationshipWritten, outputWith, Tags, tagsWritten, outputWithTag}
-use Rattle.model.specs.Strict.{letter, Matches, valueOf, strict}
+use Rattle.model.specs.Record.{Pair, GraphName, empty, compare_pairs, judge, names}
+use Rattle.model.specs.Layout.{record_length, encode, decode}
+use Rattle.model.specs.Reading.{Refusal, Reading, done, refused, add_to, quotes, typed_fields, line_fields, from_header_lines, tag_number, tag_relations, from_tags}
+use Rattle.model.specs.Writing.{to_gfa_header_lines, to_gaf_header_lines, relations_tag}
+use Rattle.model.specs.Path.{Step, path_bytes}
+use Rattle.model.specs.Outcome.{Outcome, read_into, read_tags_into, refusal_into, new_record, add_subgraph, add_translation, add_relationships, make_subgraph_of, add_translation_to}
+use Rattle.model.specs.Outcome.{Answer, refusal, not_found, found, ask_subgraph, ask_full, output_after, answer_number, answer_value}
+use Rattle.model.specs.Questions.{counts_in, name_in, name_at_in, pair_at_in, is_same_in}
+use Rattle.model.specs.Opening.{Given, number_of, value_or}
+use Rattle.model.specs.Written.{gfa_written, gaf_written, message_written, relationship_written, output_with, Tags, tags_written, output_with_tag}
+use Rattle.model.specs.Strict.{letter, Matches, value_of, strict}
 
 -- ------------------------------------------------------------------ records
 
@@ -32,8 +32,8 @@ Ascending cmp (x ∷ y ∷ ys) = (cmp x y ≡ Less) × Ascending cmp (y ∷ ys)
 
 -- a graph name within the sizes of docs/FORMAT.md
 pub record Valid (g : GraphName) : Type 0 where
-  pub subgraphs : Ascending comparePairs g.subgraph
-  pub translations : Ascending comparePairs g.translation
+  pub subgraphs : Ascending compare_pairs g.subgraph
+  pub translations : Ascending compare_pairs g.translation
   pub sizes : judge g ≡ 0
 
 -- equal meaning is equal bytes, and every record has a meaning
@@ -55,17 +55,17 @@ abbrev pub AllPairNames : (Bytes → Type 0) → GraphName → Type 0
 AllPairNames P g = (p : Pair) → Memᴰ p g.subgraph ⊎ Memᴰ p g.translation → P p.from × P p.to
 
 abbrev pub GafReadsBack : Type 0
-GafReadsBack = (g : GraphName) → Valid g → AllNames (λ n. (n ≢ []) × Without 9 n × Without 10 n) g → fromHeaderLines (toGafHeaderLines g) ≡ done g
+GafReadsBack = (g : GraphName) → Valid g → AllNames (λ n. (n ≢ []) × Without 9 n × Without 10 n) g → from_header_lines (to_gaf_header_lines g) ≡ done g
 
 abbrev pub GfaReadsBack : Type 0
 GfaReadsBack =
     (g : GraphName) → Valid g → AllNames (λ n. Without 9 n × Without 10 n) g → AllPairNames (λ n. (n ≢ []) × Without 44 n) g
-    → fromHeaderLines (toGfaHeaderLines g) ≡ done g
+    → from_header_lines (to_gfa_header_lines g) ≡ done g
 
 abbrev pub TagsReadBack : Type 0
 TagsReadBack =
     (g : GraphName) → Valid g → AllPairNames (λ n. (n ≢ []) × Without 44 n × Without 59 n) g
-    → fromTags g.name (relationsTag g.subgraph) (relationsTag g.translation) ≡ done g
+    → from_tags g.name (relations_tag g.subgraph) (relations_tag g.translation) ≡ done g
 
 -- ------------------------------------------------------------------ where a refusal is
 
@@ -87,23 +87,23 @@ pub record Quoted (t : Bytes) (r : Refusal) (read : Bytes → Reading) : Type 0 
   pub alone : read (standing t r) ≡ refused r
 
 -- a part of header lines read by itself, as its number quotes it: a line's first field, a field of an `H` line, a whole line
-abbrev pub partAlone : Refusal → Bytes → Reading
-partAlone r w =
-    cond (eqb r.number 2) (lineFields r.line r.offset w (w ∷ [] ∷ []) empty)
-    (cond (leb r.number 5) (typedFields r.line r.offset (w ∷ []) empty)
-    (lineFields r.line r.offset w (split 9 w) empty))
+abbrev pub part_alone : Refusal → Bytes → Reading
+part_alone r w =
+    cond (eqb r.number 2) (line_fields r.line r.offset w (w ∷ [] ∷ []) empty)
+    (cond (leb r.number 5) (typed_fields r.line r.offset (w ∷ []) empty)
+    (line_fields r.line r.offset w (split 9 w) empty))
 
 -- the numbers whose offset is that of a line; the others of header lines have that of a field
-abbrev pub ofLine : ℕ → Bool
-ofLine n = leb n 2 || (leb 6 n && leb n 8)
+abbrev pub of_line : ℕ → Bool
+of_line n = leb n 2 || (leb 6 n && leb n 8)
 
 -- the offset is a place of the text, and in the line that is told: the text up to there has that many lines
 pub record PlacedInLines (t : Bytes) (r : Refusal) : Type 0 where
   pub inside : r.offset ≤ length t
   pub lines : length (split 10 (take r.offset t)) ≡ r.line
-  pub quoted : quotes r.number ≡ true → Quoted t r (partAlone r)
-  pub line : ofLine r.number ≡ true → Begins 10 t r.offset
-  pub field : ofLine r.number ≡ false → Behind 9 t r.offset
+  pub quoted : quotes r.number ≡ true → Quoted t r (part_alone r)
+  pub line : of_line r.number ≡ true → Begins 10 t r.offset
+  pub field : of_line r.number ≡ false → Behind 9 t r.offset
 
 -- a relation of a tag's value begins at the offset; it is the quoted one
 abbrev pub BeginsIn : Option Bytes → Refusal → Type 0
@@ -112,21 +112,21 @@ BeginsIn (some v) r = (r.offset ≤ length v) × Begins 59 v r.offset
 
 abbrev pub QuotedIn : Kind → Option Bytes → Refusal → Type 0
 QuotedIn k none r = ⊥
-QuotedIn k (some v) r = Quoted v r (λ w. tagRelations (tagNumber k) (addTo k) r.offset (w ∷ []) empty)
+QuotedIn k (some v) r = Quoted v r (λ w. tag_relations (tag_number k) (add_to k) r.offset (w ∷ []) empty)
 
 -- the value of the tag of a kind
-abbrev pub tagOf : Kind → Option Bytes → Option Bytes → Option Bytes
-tagOf Subgraph s t = s
-tagOf Translation s t = t
+abbrev pub tag_of : Kind → Option Bytes → Option Bytes → Option Bytes
+tag_of Subgraph s t = s
+tag_of Translation s t = t
 
 -- the offset of a wrong relation is counted in the tag of its kind; that of 11 to 14 in either tag, or it is 0, as for the own name
 pub record PlacedInTags (s t : Option Bytes) (r : Refusal) : Type 0 where
-  pub relation : (k : Kind) → r.number ≡ tagNumber k → BeginsIn (tagOf k s t) r × QuotedIn k (tagOf k s t) r
-  pub sizes : 10 < r.number → (r.offset ≡ 0) ⊎ ((k : Kind) × BeginsIn (tagOf k s t) r)
+  pub relation : (k : Kind) → r.number ≡ tag_number k → BeginsIn (tag_of k s t) r × QuotedIn k (tag_of k s t) r
+  pub sizes : 10 < r.number → (r.offset ≡ 0) ⊎ ((k : Kind) × BeginsIn (tag_of k s t) r)
 
 pub record OffsetRight : Type 0 where
-  pub header-lines : (t : Bytes) (r : Refusal) → fromHeaderLines t ≡ refused r → PlacedInLines t r
-  pub tags : (n s t : Option Bytes) (r : Refusal) → fromTags n s t ≡ refused r → PlacedInTags s t r
+  pub header_lines : (t : Bytes) (r : Refusal) → from_header_lines t ≡ refused r → PlacedInLines t r
+  pub tags : (n s t : Option Bytes) (r : Refusal) → from_tags n s t ≡ refused r → PlacedInTags s t r
 
 -- ------------------------------------------------------------------ numbers and refusals (demand 1)
 
@@ -134,13 +134,13 @@ pub record OffsetRight : Type 0 where
 pub record Bounded (entry : Bytes → Outcome) : Type 0 where
   pub number : (b : Bytes) → (entry b).number ≤ 18
   pub size : (b : Bytes) → length (entry b).buffer ≡ length b
-  pub wrong : (b : Bytes) → length b ≢ recordLength → ((entry b).number ≡ 15) × ((entry b).buffer ≡ b)
+  pub wrong : (b : Bytes) → length b ≢ record_length → ((entry b).number ≡ 15) × ((entry b).buffer ≡ b)
 
 -- a refused reading, or `new`, leaves the empty record; 15 speaks of the buffer's size alone, and then nothing is written
 pub record LeavesEmpty (entry : Bytes → Outcome) : Type 0 where
   pub bounded : Bounded entry
-  pub refused : (b : Bytes) → (entry b).number ≢ 0 → (entry b).number ≢ 15 → (entry b).buffer ≡ replicate recordLength 0
-  pub fifteen : (b : Bytes) → (entry b).number ≡ 15 → length b ≢ recordLength
+  pub refused : (b : Bytes) → (entry b).number ≢ 0 → (entry b).number ≢ 15 → (entry b).buffer ≡ replicate record_length 0
+  pub fifteen : (b : Bytes) → (entry b).number ≡ 15 → length b ≢ record_length
 
 -- a refused change leaves the buffer
 pub record LeavesRecord (entry : Bytes → Outcome) : Type 0 where
@@ -149,19 +149,19 @@ pub record LeavesRecord (entry : Bytes → Outcome) : Type 0 where
 
 -- a refused question leaves every number beside the answer
 pub record LeavesNumbers {A : Type 0} (answer : Given A) : Type 0 where
-  pub number : numberOf answer ≤ 18
-  pub kept : numberOf answer ≢ 0 → (value : A → ℕ) (old : ℕ) → valueOr old value answer ≡ old
+  pub number : number_of answer ≤ 18
+  pub kept : number_of answer ≢ 0 → (value : A → ℕ) (old : ℕ) → value_or old value answer ≡ old
 
 -- a refused writing leaves the output as well, and a done one its length; the answer goes by the room
 pub record LeavesOutput (answer : ℕ → Given Bytes) : Type 0 where
   pub numbers : (room : ℕ) → LeavesNumbers (answer room)
-  pub kept : (out : Bytes) → numberOf (answer (length out)) ≢ 0 → outputWith (answer (length out)) out ≡ out
-  pub size : (out : Bytes) → length (outputWith (answer (length out)) out) ≡ length out
+  pub kept : (out : Bytes) → number_of (answer (length out)) ≢ 0 → output_with (answer (length out)) out ≡ out
+  pub size : (out : Bytes) → length (output_with (answer (length out)) out) ≡ length out
 
 -- the same of three outputs at once, for each of them
 abbrev pub OneTagLeft : (Tags → Option Bytes) → Given Tags → Bytes → Type 0
 OneTagLeft value answer out =
-    (numberOf answer ≢ 0 → outputWithTag value answer out ≡ out) × (length (outputWithTag value answer out) ≡ length out)
+    (number_of answer ≢ 0 → output_with_tag value answer out ≡ out) × (length (output_with_tag value answer out) ≡ length out)
 
 pub record LeavesTags (answer : ℕ → ℕ → ℕ → Given Tags) : Type 0 where
   pub numbers : (n s t : ℕ) → LeavesNumbers (answer n s t)
@@ -171,34 +171,34 @@ pub record LeavesTags (answer : ℕ → ℕ → ℕ → Given Tags) : Type 0 whe
 
 -- the same of a path question
 pub record LeavesAnswer (answer : ℕ → Answer) : Type 0 where
-  pub number : (room : ℕ) → answerNumber (answer room) ≤ 18
-  pub answer-kept : (room old : ℕ) → answerNumber (answer room) ≢ 0 → answerValue old (answer room) ≡ old
-  pub kept : (out : Bytes) → answerNumber (answer (length out)) ≢ 0 → outputAfter (answer (length out)) out ≡ out
-  pub size : (out : Bytes) → length (outputAfter (answer (length out)) out) ≡ length out
+  pub number : (room : ℕ) → answer_number (answer room) ≤ 18
+  pub answer_kept : (room old : ℕ) → answer_number (answer room) ≢ 0 → answer_value old (answer room) ≡ old
+  pub kept : (out : Bytes) → answer_number (answer (length out)) ≢ 0 → output_after (answer (length out)) out ≡ out
+  pub size : (out : Bytes) → length (output_after (answer (length out)) out) ≡ length out
 
 -- every entry on records that can refuse, as its contract has it: what it may write are the buffers and numbers named here, and no others.
 -- The strict reading refuses nothing
 pub record RecordsDemand1 : Type 0 where
-  pub from-header-lines : (t : Bytes) → LeavesEmpty λ b. record { number = (refusalInto (fromHeaderLines t) b).number; buffer = (readInto t b).buffer }
-  pub from-tags : (n s t : Option Bytes) → LeavesEmpty λ b. record { number = (refusalInto (fromTags n s t) b).number; buffer = (readTagsInto n s t b).buffer }
-  pub new : (n : Bytes) → LeavesEmpty (newRecord n)
-  pub add-subgraph : (from to : Bytes) → LeavesRecord (addSubgraph from to)
-  pub add-translation : (from to : Bytes) → LeavesRecord (addTranslation from to)
-  pub make-subgraph-of : (parent : Bytes) → LeavesRecord λ b. makeSubgraphOf b parent
-  pub add-translation-to : (parent : Bytes) → LeavesRecord λ b. addTranslationTo b parent
-  pub add-relationships : (other : Bytes) → LeavesRecord λ b. addRelationships b other
-  pub counts : (b : Bytes) → LeavesNumbers (countsIn b)
-  pub name : (b : Bytes) → LeavesNumbers (nameIn b)
-  pub name-at : (b : Bytes) (i : ℕ) → LeavesNumbers (nameAtIn b i)
-  pub pair-at : (k : Kind) (b : Bytes) (i : ℕ) → LeavesNumbers (pairAtIn k b i)
-  pub is_same : (b c : Bytes) → LeavesNumbers (isSameIn b c)
-  pub is-subgraph-of : (b c : Bytes) → LeavesAnswer (askSubgraph b c)
-  pub translates-to : (b c : Bytes) → LeavesAnswer (askFull b c)
-  pub to-gfa : (b : Bytes) → LeavesOutput (gfaWritten b)
-  pub to-gaf : (b : Bytes) → LeavesOutput (gafWritten b)
-  pub error-message : (number line : ℕ) (part : Bytes) → LeavesOutput (messageWritten number line part)
-  pub describe-relationship : (b c selfDesc otherDesc : Bytes) → LeavesOutput (relationshipWritten b c selfDesc otherDesc)
-  pub set-tags : (b : Bytes) → LeavesTags (tagsWritten b)
+  pub from_header_lines_lem : (t : Bytes) → LeavesEmpty λ b. record { number = (refusal_into (from_header_lines t) b).number; buffer = (read_into t b).buffer }
+  pub from_tags_lem : (n s t : Option Bytes) → LeavesEmpty λ b. record { number = (refusal_into (from_tags n s t) b).number; buffer = (read_tags_into n s t b).buffer }
+  pub new : (n : Bytes) → LeavesEmpty (new_record n)
+  pub add_subgraph_lem : (from to : Bytes) → LeavesRecord (add_subgraph from to)
+  pub add_translation_lem : (from to : Bytes) → LeavesRecord (add_translation from to)
+  pub make_subgraph_of_lem : (parent : Bytes) → LeavesRecord λ b. make_subgraph_of b parent
+  pub add_translation_to_lem : (parent : Bytes) → LeavesRecord λ b. add_translation_to b parent
+  pub add_relationships_lem : (other : Bytes) → LeavesRecord λ b. add_relationships b other
+  pub counts : (b : Bytes) → LeavesNumbers (counts_in b)
+  pub name : (b : Bytes) → LeavesNumbers (name_in b)
+  pub name_at : (b : Bytes) (i : ℕ) → LeavesNumbers (name_at_in b i)
+  pub pair_at : (k : Kind) (b : Bytes) (i : ℕ) → LeavesNumbers (pair_at_in k b i)
+  pub is_same : (b c : Bytes) → LeavesNumbers (is_same_in b c)
+  pub is_subgraph_of : (b c : Bytes) → LeavesAnswer (ask_subgraph b c)
+  pub translates_to : (b c : Bytes) → LeavesAnswer (ask_full b c)
+  pub to_gfa : (b : Bytes) → LeavesOutput (gfa_written b)
+  pub to_gaf : (b : Bytes) → LeavesOutput (gaf_written b)
+  pub error_message_lem : (number line : ℕ) (part : Bytes) → LeavesOutput (message_written number line part)
+  pub describe_relationship_lem : (b c self_desc other_desc : Bytes) → LeavesOutput (relationship_written b c self_desc other_desc)
+  pub set_tags : (b : Bytes) → LeavesTags (tags_written b)
 
 -- ------------------------------------------------------------------ paths (demand 3)
 
@@ -207,13 +207,13 @@ abbrev pub Relation : Type 1
 Relation = Kind → Bytes → Bytes → Type 0
 
 -- a pair of either record, by its kind; a subgraph question goes by subgraph pairs alone
-abbrev pub bySubgraph : GraphName → GraphName → Relation
-bySubgraph g h Subgraph a n = Memᴰ (record { from = a; to = n }) g.subgraph ⊎ Memᴰ (record { from = a; to = n }) h.subgraph
-bySubgraph g h Translation a n = ⊥
+abbrev pub by_subgraph : GraphName → GraphName → Relation
+by_subgraph g h Subgraph a n = Memᴰ (record { from = a; to = n }) g.subgraph ⊎ Memᴰ (record { from = a; to = n }) h.subgraph
+by_subgraph g h Translation a n = ⊥
 
-abbrev pub byEither : GraphName → GraphName → Relation
-byEither g h Subgraph a n = Memᴰ (record { from = a; to = n }) g.subgraph ⊎ Memᴰ (record { from = a; to = n }) h.subgraph
-byEither g h Translation a n = Memᴰ (record { from = a; to = n }) g.translation ⊎ Memᴰ (record { from = a; to = n }) h.translation
+abbrev pub by_either : GraphName → GraphName → Relation
+by_either g h Subgraph a n = Memᴰ (record { from = a; to = n }) g.subgraph ⊎ Memᴰ (record { from = a; to = n }) h.subgraph
+by_either g h Translation a n = Memᴰ (record { from = a; to = n }) g.translation ⊎ Memᴰ (record { from = a; to = n }) h.translation
 
 -- the steps lead from a to b
 unfoldable pub IsPath : Relation → Bytes → List Step → Bytes → Type 0
@@ -228,7 +228,7 @@ KindBefore Translation Subgraph same = ⊥
 KindBefore Translation Translation same = same
 
 abbrev pub StepBefore : Step → Step → Type 0
-StepBefore s t = KindBefore s.kind t.kind (compareBytes s.next t.next ≡ Less)
+StepBefore s t = KindBefore s.kind t.kind (compare_bytes s.next t.next ≡ Less)
 
 unfoldable pub Before : List Step → List Step → Type 0
 Before [] ts = ⊥
@@ -247,20 +247,20 @@ Reachable R (some a) n = (ss : List Step) × IsPath R a ss n
 -- the right answer: yes, with the bytes of the best path, where both graphs are named, there is a path and its bytes fit the room; 17
 -- where they do not fit; no where there is no path; and no other refusal
 abbrev pub RightBetween : Relation → Bytes → Bytes → ℕ → Answer → Type 0
-RightBetween R a b room (refusal n) = (n ≡ 17) × ((ss : List Step) × Best R a ss b × (room < length (pathBytes a ss)))
-RightBetween R a b room notFound = (ss : List Step) → IsPath R a ss b → ⊥
-RightBetween R a b room (found bytes) = (ss : List Step) × Best R a ss b × (bytes ≡ pathBytes a ss) × (length bytes ≤ room)
+RightBetween R a b room (refusal n) = (n ≡ 17) × ((ss : List Step) × Best R a ss b × (room < length (path_bytes a ss)))
+RightBetween R a b room not_found = (ss : List Step) → IsPath R a ss b → ⊥
+RightBetween R a b room (found bytes) = (ss : List Step) × Best R a ss b × (bytes ≡ path_bytes a ss) × (length bytes ≤ room)
 
 abbrev pub Right : Relation → Option Bytes → Option Bytes → ℕ → Answer → Type 0
-Right R none b room r = r ≡ notFound
-Right R (some a) none room r = r ≡ notFound
+Right R none b room r = r ≡ not_found
+Right R (some a) none room r = r ≡ not_found
 Right R (some a) (some b) room r = RightBetween R a b room r
 
 -- the bytes of the best path, where there is one, fit the room
 abbrev pub HasRoom : Relation → Option Bytes → Option Bytes → ℕ → Type 0
 HasRoom R none b room = Unit {0}
 HasRoom R (some a) none room = Unit {0}
-HasRoom R (some a) (some b) room = (ss : List Step) → Best R a ss b → length (pathBytes a ss) ≤ room
+HasRoom R (some a) (some b) room = (ss : List Step) → Best R a ss b → length (path_bytes a ss) ≤ room
 
 -- one question, in its two parts: what is answered, and that nothing but the reachable relations counts
 module _ (ask : Bytes → Bytes → ℕ → Answer) (by : GraphName → GraphName → Relation) where
@@ -279,10 +279,10 @@ module _ (ask : Bytes → Bytes → ℕ → Answer) (by : GraphName → GraphNam
       → ask b c room ≡ ask b' c' room'
 
 pub record Demand3 : Type 0 where
-  pub subgraph-right : AnswersRight askSubgraph bySubgraph
-  pub subgraph-local : Local askSubgraph bySubgraph
-  pub full-right : AnswersRight askFull byEither
-  pub full-local : Local askFull byEither
+  pub subgraph_right : AnswersRight ask_subgraph by_subgraph
+  pub subgraph_local : Local ask_subgraph by_subgraph
+  pub full_right : AnswersRight ask_full by_either
+  pub full_local : Local ask_full by_either
 
 -- ------------------------------------------------------------------ the strict reading
 
@@ -294,7 +294,7 @@ pub record TypedField (f : Bytes) : Type 0 where
   pub value : Bytes
   pub parts : f ≡ first ∷ second ∷ 58 ∷ type ∷ 58 ∷ value
   pub letters : (letter first ≡ true) × (letter second ≡ true)
-  pub matched : Matches (valueOf type) value
+  pub matched : Matches (value_of type) value
 
 -- field i of a line is as it should be: the first is `H`, every other a typed field with a tag that none between the two has
 abbrev pub FieldFine : List Bytes → ℕ → Type 0

@@ -2,28 +2,28 @@
 -- each buffer holds then.
 use Rattle.std.specs.Prelude.{Bool, cond, ◌&&◌, List, [], ◌∷◌, ℕ, zero, suc, ◌+◌, length, leb}
 use Rattle.std.proofs.Math.Option.{Option, some, none}
-use Rattle.model.specs.Bytes.{Bytes, sameBytes}
-use Rattle.model.specs.Opening.{Given, refuses, gives, andThen, orRefuse, isSome, opened, recordIn}
+use Rattle.model.specs.Bytes.{Bytes, same_bytes}
+use Rattle.model.specs.Opening.{Given, refuses, gives, and_then, or_refuse, is_some, opened, record_in}
 use Rattle.model.specs.Questions.{Part, mapped}
-use Rattle.model.specs.Written.{Tags, tagsOf, fits, putValue}
-use Rattle.model.specs.TagList.{Tag, lookUp, setTag, removeTag, setGraphName, maxTags, maxValue, lower, fineKey, keysAfter, encodeTags, decodeTags}
+use Rattle.model.specs.Written.{Tags, tags_of, fits, put_value}
+use Rattle.model.specs.TagList.{Tag, look_up, set_tag, remove_tag, set_graph_name, max_tags, max_value, lower, fine_key, keys_after, encode_tags, decode_tags}
 
 -- 29 where a block is no tag list
-unfoldable pub tagList : Bytes → Given (List Tag)
-tagList b = orRefuse 29 (decodeTags b)
+unfoldable pub tag_list : Bytes → Given (List Tag)
+tag_list b = or_refuse 29 (decode_tags b)
 
 -- a key made ready for use; 19 looks at it as it comes
-unfoldable pub readyKey : Bytes → Given Bytes
-readyKey k = cond (fineKey k) (gives (lower k)) (refuses 19)
+unfoldable pub ready_key : Bytes → Given Bytes
+ready_key k = cond (fine_key k) (gives (lower k)) (refuses 19)
 
 -- f of the list and of a key made ready: 29, then 19
-abbrev pub withKey : {A : Type 0} → Bytes → Bytes → (List Tag → Bytes → Given A) → Given A
-withKey b key f = andThen (tagList b) λ ts. andThen (readyKey key) λ k. f ts k
+abbrev pub with_key : {A : Type 0} → Bytes → Bytes → (List Tag → Bytes → Given A) → Given A
+with_key b key f = and_then (tag_list b) λ ts. and_then (ready_key key) λ k. f ts k
 
 -- ------------------------------------------------------------------ looking up
 
-unfoldable pub tagCountIn : Bytes → Given ℕ
-tagCountIn b = andThen (tagList b) λ ts. gives (length ts)
+unfoldable pub tag_count_in : Bytes → Given ℕ
+tag_count_in b = and_then (tag_list b) λ ts. gives (length ts)
 
 -- where a tag's key and value stand in the block
 pub record TagParts : Type 0 where
@@ -31,8 +31,8 @@ pub record TagParts : Type 0 where
   pub value : Part
 
 -- the parts of a tag whose key begins at `start`, and where the next begins
-abbrev pub partsOf : ℕ → Tag → TagParts
-partsOf start t = record {
+abbrev pub parts_of : ℕ → Tag → TagParts
+parts_of start t = record {
   key = record { start = start; size = length t.key };
   value = record { start = start + length t.key; size = length t.value };
 }
@@ -40,57 +40,57 @@ partsOf start t = record {
 abbrev pub behind : ℕ → Tag → ℕ
 behind start t = start + length t.key + length t.value
 
-unfoldable pub partsAt : ℕ → List Tag → ℕ → Option TagParts
-partsAt start [] i = none
-partsAt start (t ∷ ts) zero = some (partsOf start t)
-partsAt start (t ∷ ts) (suc i) = partsAt (behind start t) ts i
+unfoldable pub parts_at : ℕ → List Tag → ℕ → Option TagParts
+parts_at start [] i = none
+parts_at start (t ∷ ts) zero = some (parts_of start t)
+parts_at start (t ∷ ts) (suc i) = parts_at (behind start t) ts i
 
-unfoldable pub partsWith : ℕ → Bytes → List Tag → Option TagParts
-partsWith start k [] = none
-partsWith start k (t ∷ ts) = cond (sameBytes k t.key) (some (partsOf start t)) (partsWith (behind start t) k ts)
+unfoldable pub parts_with : ℕ → Bytes → List Tag → Option TagParts
+parts_with start k [] = none
+parts_with start k (t ∷ ts) = cond (same_bytes k t.key) (some (parts_of start t)) (parts_with (behind start t) k ts)
 
 -- the tag at a place, counted from 0; past the end there is none
-unfoldable pub tagAtIn : Bytes → ℕ → Given (Option TagParts)
-tagAtIn b i = andThen (tagList b) λ ts. gives (partsAt (keysAfter (length ts)) ts i)
+unfoldable pub tag_at_in : Bytes → ℕ → Given (Option TagParts)
+tag_at_in b i = and_then (tag_list b) λ ts. gives (parts_at (keys_after (length ts)) ts i)
 
-abbrev pub valuePart : TagParts → Part
-valuePart p = p.value
+abbrev pub value_part : TagParts → Part
+value_part p = p.value
 
 -- `get`: where the value stands
-unfoldable pub getIn : Bytes → Bytes → Given (Option Part)
-getIn b key = withKey b key λ ts k. gives (mapped valuePart (partsWith (keysAfter (length ts)) k ts))
+unfoldable pub get_in : Bytes → Bytes → Given (Option Part)
+get_in b key = with_key b key λ ts k. gives (mapped value_part (parts_with (keys_after (length ts)) k ts))
 
 -- the value itself
-unfoldable pub valueIn : Bytes → Bytes → Given (Option Bytes)
-valueIn b key = withKey b key λ ts k. gives (lookUp k ts)
+unfoldable pub value_in : Bytes → Bytes → Given (Option Bytes)
+value_in b key = with_key b key λ ts k. gives (look_up k ts)
 
 -- `contains_key`
-unfoldable pub containsIn : Bytes → Bytes → Given Bool
-containsIn b key = withKey b key λ ts k. gives (isSome (lookUp k ts))
+unfoldable pub contains_in : Bytes → Bytes → Given Bool
+contains_in b key = with_key b key λ ts k. gives (is_some (look_up k ts))
 
 -- ------------------------------------------------------------------ changing
 
 -- a new list judged as a whole: 20 where a new value is not short, then 21
-unfoldable pub judgedTags : Bool → List Tag → Given (List Tag)
-judgedTags short ts = cond short (cond (leb (length ts) maxTags) (gives ts) (refuses 21)) (refuses 20)
+unfoldable pub judged_tags : Bool → List Tag → Given (List Tag)
+judged_tags short ts = cond short (cond (leb (length ts) max_tags) (gives ts) (refuses 21)) (refuses 20)
 
 -- `insert`
-unfoldable pub insertIn : Bytes → Bytes → Bytes → Given (List Tag)
-insertIn b key value = withKey b key λ ts k. judgedTags (leb (length value) maxValue) (setTag k value ts)
+unfoldable pub insert_in : Bytes → Bytes → Bytes → Given (List Tag)
+insert_in b key value = with_key b key λ ts k. judged_tags (leb (length value) max_value) (set_tag k value ts)
 
 -- whether each of three tags that is there is short enough
-abbrev pub shortTags : Tags → Bool
-shortTags v = fits v.name maxValue && (fits v.subgraph maxValue && fits v.translation maxValue)
+abbrev pub short_tags : Tags → Bool
+short_tags v = fits v.name max_value && (fits v.subgraph max_value && fits v.translation max_value)
 
 -- a record's three tags put in at once
-unfoldable pub setGraphNameIn : Bytes → Bytes → Given (List Tag)
-setGraphNameIn b buffer =
-    andThen (opened (recordIn buffer)) λ g. andThen (tagList b) λ ts. judgedTags (shortTags (tagsOf g)) (setGraphName g ts)
+unfoldable pub set_graph_name_in : Bytes → Bytes → Given (List Tag)
+set_graph_name_in b buffer =
+    and_then (opened (record_in buffer)) λ g. and_then (tag_list b) λ ts. judged_tags (short_tags (tags_of g)) (set_graph_name g ts)
 
 -- what the block then holds; a refusal leaves it as it was
-abbrev pub listWith : Given (List Tag) → Bytes → Bytes
-listWith (refuses n) b = b
-listWith (gives ts) b = encodeTags ts
+abbrev pub list_with : Given (List Tag) → Bytes → Bytes
+list_with (refuses n) b = b
+list_with (gives ts) b = encode_tags ts
 
 -- the value that was there, and the list without it
 pub record Removal : Type 0 where
@@ -98,15 +98,15 @@ pub record Removal : Type 0 where
   pub rest : List Tag
 
 -- `remove`, with so much room in the output for the value: 17 where it does not fit, and then nothing is removed
-unfoldable pub removeIn : Bytes → Bytes → ℕ → Given Removal
-removeIn b key room =
-    withKey b key λ ts k.
-    cond (fits (lookUp k ts) room) (gives (record { value = lookUp k ts; rest = removeTag k ts })) (refuses 17)
+unfoldable pub remove_in : Bytes → Bytes → ℕ → Given Removal
+remove_in b key room =
+    with_key b key λ ts k.
+    cond (fits (look_up k ts) room) (gives (record { value = look_up k ts; rest = remove_tag k ts })) (refuses 17)
 
-abbrev pub restGiven : Given Removal → Given (List Tag)
-restGiven r = andThen r λ v. gives v.rest
+abbrev pub rest_given : Given Removal → Given (List Tag)
+rest_given r = and_then r λ v. gives v.rest
 
 -- what the output then holds
-abbrev pub outputWithRemoved : Given Removal → Bytes → Bytes
-outputWithRemoved (refuses n) out = out
-outputWithRemoved (gives r) out = putValue r.value out
+abbrev pub output_with_removed : Given Removal → Bytes → Bytes
+output_with_removed (refuses n) out = out
+output_with_removed (gives r) out = put_value r.value out

@@ -7,55 +7,55 @@ use Rattle.model.specs.Bytes.{Bytes}
 use Rattle.model.specs.Questions.{Part, PairParts}
 use Rattle.model.specs.TagOutcome.{TagParts}
 
-abbrev pub oneIf : Bool → ℕ
-oneIf true = 1
-oneIf false = 0
+abbrev pub one_if : Bool → ℕ
+one_if true = 1
+one_if false = 0
 
-abbrev pub isPresent : {A : Type 0} → Option A → ℕ
-isPresent none = 0
-isPresent (some a) = 1
+abbrev pub is_present : {A : Type 0} → Option A → ℕ
+is_present none = 0
+is_present (some a) = 1
 
-abbrev pub orZero : {A : Type 0} → (A → ℕ) → Option A → ℕ
-orZero f none = 0
-orZero f (some a) = f a
+abbrev pub or_zero : {A : Type 0} → (A → ℕ) → Option A → ℕ
+or_zero f none = 0
+or_zero f (some a) = f a
 
-abbrev pub lengthOf : Option Bytes → ℕ
-lengthOf = orZero length
+abbrev pub length_of : Option Bytes → ℕ
+length_of = or_zero length
 
-abbrev pub partStart : Option Part → ℕ
-partStart = orZero (λ (p : Part). p.start)
+abbrev pub part_start : Option Part → ℕ
+part_start = or_zero (λ (p : Part). p.start)
 
-abbrev pub partSize : Option Part → ℕ
-partSize = orZero (λ (p : Part). p.size)
+abbrev pub part_size : Option Part → ℕ
+part_size = or_zero (λ (p : Part). p.size)
 
-abbrev pub fromStart : Option PairParts → ℕ
-fromStart = orZero (λ (p : PairParts). p.from.start)
+abbrev pub from_start_of : Option PairParts → ℕ
+from_start_of = or_zero (λ (p : PairParts). p.from.start)
 
-abbrev pub fromSize : Option PairParts → ℕ
-fromSize = orZero (λ (p : PairParts). p.from.size)
+abbrev pub from_size_of : Option PairParts → ℕ
+from_size_of = or_zero (λ (p : PairParts). p.from.size)
 
-abbrev pub toStart : Option PairParts → ℕ
-toStart = orZero (λ (p : PairParts). p.to.start)
+abbrev pub to_start_of : Option PairParts → ℕ
+to_start_of = or_zero (λ (p : PairParts). p.to.start)
 
-abbrev pub toSize : Option PairParts → ℕ
-toSize = orZero (λ (p : PairParts). p.to.size)
+abbrev pub to_size_of : Option PairParts → ℕ
+to_size_of = or_zero (λ (p : PairParts). p.to.size)
 
-abbrev pub keyStart : Option TagParts → ℕ
-keyStart = orZero (λ (p : TagParts). p.key.start)
+abbrev pub key_start_of : Option TagParts → ℕ
+key_start_of = or_zero (λ (p : TagParts). p.key.start)
 
-abbrev pub keySize : Option TagParts → ℕ
-keySize = orZero (λ (p : TagParts). p.key.size)
+abbrev pub key_size_of : Option TagParts → ℕ
+key_size_of = or_zero (λ (p : TagParts). p.key.size)
 
-abbrev pub valueStart : Option TagParts → ℕ
-valueStart = orZero (λ (p : TagParts). p.value.start)
+abbrev pub value_start_of : Option TagParts → ℕ
+value_start_of = or_zero (λ (p : TagParts). p.value.start)
 
-abbrev pub valueSize : Option TagParts → ℕ
-valueSize = orZero (λ (p : TagParts). p.value.size)
+abbrev pub value_size_of : Option TagParts → ℕ
+value_size_of = or_zero (λ (p : TagParts). p.value.size)
 
 -- 0 for fine, else one more than the number of the first faulty field
-abbrev pub strictNumber : Strictness → ℕ
-strictNumber Fine = 0
-strictNumber (Faulty n) = n + 1
+abbrev pub strict_number : Strictness → ℕ
+strict_number Fine = 0
+strict_number (Faulty n) = n + 1
 
 -- a tag's value, where the tag is there
 abbrev pub given : Bool → Bytes → Option Bytes

@@ -3,43 +3,43 @@ use Rattle.std.specs.Prelude.{Bool, true, cond, ◌&&◌, ℕ, length, leb}
 use Rattle.std.proofs.Math.Option.{Option, some, none}
 use Rattle.model.specs.Bytes.{Bytes, put}
 use Rattle.model.specs.Record.{GraphName}
-use Rattle.model.specs.Questions.{asked, askedBoth, mapped}
+use Rattle.model.specs.Questions.{asked, asked_both, mapped}
 use Rattle.model.specs.Opening.{Given, refuses, gives}
-use Rattle.model.specs.Message.{errorMessage}
-use Rattle.model.specs.Writing.{toGfaHeaderLines, toGafHeaderLines, relationsTag}
-use Rattle.model.specs.Describe.{describeRelationship}
+use Rattle.model.specs.Message.{error_message}
+use Rattle.model.specs.Writing.{to_gfa_header_lines, to_gaf_header_lines, relations_tag}
+use Rattle.model.specs.Describe.{describe_relationship}
 
 -- 17 where the text is longer than the output
 abbrev pub within : ℕ → Given Bytes → Given Bytes
 within room (refuses n) = refuses n
 within room (gives t) = cond (leb (length t) room) (gives t) (refuses 17)
 
-unfoldable pub gfaWritten : Bytes → ℕ → Given Bytes
-gfaWritten b room = within room (asked b toGfaHeaderLines)
+unfoldable pub gfa_written : Bytes → ℕ → Given Bytes
+gfa_written b room = within room (asked b to_gfa_header_lines)
 
-unfoldable pub gafWritten : Bytes → ℕ → Given Bytes
-gafWritten b room = within room (asked b toGafHeaderLines)
+unfoldable pub gaf_written : Bytes → ℕ → Given Bytes
+gaf_written b room = within room (asked b to_gaf_header_lines)
 
-unfoldable pub messageWritten : ℕ → ℕ → Bytes → ℕ → Given Bytes
-messageWritten number line part room = within room (gives (errorMessage number line part))
+unfoldable pub message_written : ℕ → ℕ → Bytes → ℕ → Given Bytes
+message_written number line part room = within room (gives (error_message number line part))
 
 -- 18 where either desc is over 4,096 bytes
-abbrev pub withDescs : Bytes → Bytes → Given Bytes → Given Bytes
-withDescs selfDesc otherDesc (refuses n) = refuses n
-withDescs selfDesc otherDesc (gives t) = cond (leb (length selfDesc) 4096 && leb (length otherDesc) 4096) (gives t) (refuses 18)
+abbrev pub with_descs : Bytes → Bytes → Given Bytes → Given Bytes
+with_descs self_desc other_desc (refuses n) = refuses n
+with_descs self_desc other_desc (gives t) = cond (leb (length self_desc) 4096 && leb (length other_desc) 4096) (gives t) (refuses 18)
 
-unfoldable pub relationshipWritten : Bytes → Bytes → Bytes → Bytes → ℕ → Given Bytes
-relationshipWritten b c selfDesc otherDesc room =
-    within room (withDescs selfDesc otherDesc (askedBoth b c λ g h. describeRelationship g h selfDesc otherDesc))
+unfoldable pub relationship_written : Bytes → Bytes → Bytes → Bytes → ℕ → Given Bytes
+relationship_written b c self_desc other_desc room =
+    within room (with_descs self_desc other_desc (asked_both b c λ g h. describe_relationship g h self_desc other_desc))
 
 -- how long the text is, and what the output then holds
-abbrev pub sizeWritten : Given Bytes → Given ℕ
-sizeWritten (refuses n) = refuses n
-sizeWritten (gives t) = gives (length t)
+abbrev pub size_written : Given Bytes → Given ℕ
+size_written (refuses n) = refuses n
+size_written (gives t) = gives (length t)
 
-abbrev pub outputWith : Given Bytes → Bytes → Bytes
-outputWith (refuses n) out = out
-outputWith (gives t) out = put out 0 t
+abbrev pub output_with : Given Bytes → Bytes → Bytes
+output_with (refuses n) out = out
+output_with (gives t) out = put out 0 t
 
 -- ------------------------------------------------------------------ tags
 
@@ -48,8 +48,8 @@ pub record Tags : Type 0 where
   pub subgraph : Option Bytes
   pub translation : Option Bytes
 
-abbrev pub tagsOf : GraphName → Tags
-tagsOf g = record { name = g.name; subgraph = relationsTag g.subgraph; translation = relationsTag g.translation }
+abbrev pub tags_of : GraphName → Tags
+tags_of g = record { name = g.name; subgraph = relations_tag g.subgraph; translation = relations_tag g.translation }
 
 -- an absent value fits every output
 abbrev pub fits : Option Bytes → ℕ → Bool
@@ -57,12 +57,12 @@ fits none room = true
 fits (some t) room = leb (length t) room
 
 -- each value with an output of its own; none is written unless all fit
-abbrev pub allWithin : ℕ → ℕ → ℕ → Given Tags → Given Tags
-allWithin n s t (refuses k) = refuses k
-allWithin n s t (gives v) = cond (fits v.name n && (fits v.subgraph s && fits v.translation t)) (gives v) (refuses 17)
+abbrev pub all_within : ℕ → ℕ → ℕ → Given Tags → Given Tags
+all_within n s t (refuses k) = refuses k
+all_within n s t (gives v) = cond (fits v.name n && (fits v.subgraph s && fits v.translation t)) (gives v) (refuses 17)
 
-unfoldable pub tagsWritten : Bytes → ℕ → ℕ → ℕ → Given Tags
-tagsWritten b n s t = allWithin n s t (asked b tagsOf)
+unfoldable pub tags_written : Bytes → ℕ → ℕ → ℕ → Given Tags
+tags_written b n s t = all_within n s t (asked b tags_of)
 
 -- how long each value is, and what its output then holds
 pub record TagSizes : Type 0 where
@@ -70,14 +70,14 @@ pub record TagSizes : Type 0 where
   pub subgraph : Option ℕ
   pub translation : Option ℕ
 
-abbrev pub tagSizes : Given Tags → Given TagSizes
-tagSizes (refuses n) = refuses n
-tagSizes (gives v) = gives (record { name = mapped length v.name; subgraph = mapped length v.subgraph; translation = mapped length v.translation })
+abbrev pub tag_sizes : Given Tags → Given TagSizes
+tag_sizes (refuses n) = refuses n
+tag_sizes (gives v) = gives (record { name = mapped length v.name; subgraph = mapped length v.subgraph; translation = mapped length v.translation })
 
-abbrev pub putValue : Option Bytes → Bytes → Bytes
-putValue none out = out
-putValue (some t) out = put out 0 t
+abbrev pub put_value : Option Bytes → Bytes → Bytes
+put_value none out = out
+put_value (some t) out = put out 0 t
 
-abbrev pub outputWithTag : (Tags → Option Bytes) → Given Tags → Bytes → Bytes
-outputWithTag value (refuses n) out = out
-outputWithTag value (gives v) out = putValue (value v) out
+abbrev pub output_with_tag : (Tags → Option Bytes) → Given Tags → Bytes → Bytes
+output_with_tag value (refuses n) out = out
+output_with_tag value (gives v) out = put_value (value v) out

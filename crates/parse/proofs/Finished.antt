@@ -7,13 +7,13 @@ use Prim.Native.Nat.{ℕ, ◌+◌, ◌-◌, ◌*◌}
 use native.Mathlib.Omega.{arith}
 use lib.ListN.{length, replicate}
 use Rattle.model.specs.Bytes.{Bytes, put}
-use Rattle.model.specs.Record.{empty, insertAll, names, judge, maxNameBytes, maxNames, maxPairs, maxBodiesBytes}
-use Rattle.model.specs.Layout.{recordLength}
+use Rattle.model.specs.Record.{empty, insert_all, names, judge, max_name_bytes, max_names, max_pairs, max_bodies_bytes}
+use Rattle.model.specs.Layout.{record_length}
 use Rattle.model.specs.Statements.{Ascending}
-use Rattle.model.specs.Reading.{fromHeaderLines, Refusal, Reading}
-use Rattle.model.specs.Outcome.{outcomeOf, readingInto, refusalOf, refusalInto}
+use Rattle.model.specs.Reading.{from_header_lines, Refusal, Reading}
+use Rattle.model.specs.Outcome.{outcome_of, reading_into, refusal_of, refusal_into}
 use Rattle.record.specs.Test.{Under}
-use Rattle.record.proofs.Opening.{written-opened, written-refused}
+use Rattle.record.proofs.Opening.{written_opened, written_refused}
 use Rattle.sorted.specs.Tables.{tables}
 use Rattle.tables.proofs.Writing.{cleared}
 use Rattle.tables.specs.Judging.{Good}
@@ -24,17 +24,17 @@ use Rattle.parse.specs.declared.ending.Refusal.{Refusal as Given}
 use Rattle.parse.specs.declared.ending.Ended.{Ended}
 use Rattle.parse.specs.declared.ending.Ended.TheVariants.{Refused}
 use Rattle.parse.specs.declared.finish.Answer.TheVariants.{Refused as Denied}
-use Rattle.fields.specs.Rest.{restOf}
+use Rattle.fields.specs.Rest.{rest_of}
 use Rattle.fields.specs.declared.field.Source.TheVariants.{Header}
-use Rattle.fields.proofs.Rest.{header-start}
-use Rattle.parse.specs.Refusals.{unplaced, refusalIn}
-use Rattle.intake.specs.State.{Lengths, nothingTaken, graphNow, FittingState}
-use Rattle.parse.specs.Endings.{firstStop, readingOf}
+use Rattle.fields.proofs.Rest.{header_start}
+use Rattle.parse.specs.Refusals.{unplaced, refusal_in}
+use Rattle.intake.specs.State.{Lengths, nothing_taken, graph_now, FittingState}
+use Rattle.parse.specs.Endings.{first_stop, reading_of}
 
 -- ------------------------------------------------------------------ the start
 
-pub fresh : {refs subs trans : List ℕ} {pool own : Bytes} → length refs ≡ maxNames + 2 → length subs ≡ maxPairs + 1 → length trans ≡ maxPairs + 1
-    → length pool ≡ maxBodiesBytes + 2 * maxNameBytes → length own ≡ maxNameBytes → Lengths refs subs trans pool own
+pub fresh : {refs subs trans : List ℕ} {pool own : Bytes} → length refs ≡ max_names + 2 → length subs ≡ max_pairs + 1 → length trans ≡ max_pairs + 1
+    → length pool ≡ max_bodies_bytes + 2 * max_name_bytes → length own ≡ max_name_bytes → Lengths refs subs trans pool own
 fresh r s t p o = record {
   refs = r;
   subs = s;
@@ -44,9 +44,9 @@ fresh r s t p o = record {
 }
 
 module _ {refs subs trans : List ℕ} {pool own : Bytes} (f : Lengths refs subs trans pool own) where
-  nothing-good : Good none (tables refs subs trans pool nothingTaken.sizes)
-  unfolding names insertAll Ascending Under
-  nothing-good = record {
+  nothing_good : Good none (tables refs subs trans pool nothing_taken.sizes)
+  unfolding names insert_all Ascending Under
+  nothing_good = record {
     kept = record {
       order = tt;
       short = refl;
@@ -62,11 +62,11 @@ module _ {refs subs trans : List ℕ} {pool own : Bytes} (f : Lengths refs subs 
     used = refl;
   }
 
-  pub nothing-fitting : FittingState (tables refs subs trans pool nothingTaken.sizes) own 0
-  unfolding judge names insertAll
-  nothing-fitting = record {
+  pub nothing_fitting : FittingState (tables refs subs trans pool nothing_taken.sizes) own 0
+  unfolding judge names insert_all
+  nothing_fitting = record {
     held = record {
-      good = nothing-good;
+      good = nothing_good;
       short = omega arith;
       lengths = f;
     };
@@ -74,27 +74,27 @@ module _ {refs subs trans : List ℕ} {pool own : Bytes} (f : Lengths refs subs 
   }
 
   -- it shows the empty graph name
-  pub nothing-shown : {s : State} → s ≡ nothingTaken → graphNow (tables refs subs trans pool s.sizes) own s.own ≡ empty
-  nothing-shown e = rw e
+  pub nothing_shown : {s : State} → s ≡ nothing_taken → graph_now (tables refs subs trans pool s.sizes) own s.own ≡ empty
+  nothing_shown e = rw e
 
   -- header lines read from there
-  pub header-ended : (t : Bytes) {s : State} {n : Reading} → s ≡ nothingTaken
-      → n ≡ restOf Header t 0 (firstStop Header t) 0 (graphNow (tables refs subs trans pool s.sizes) own s.own) → n ≡ fromHeaderLines t
-  header-ended t e d = d ∙ rw e (sym (header-start t))
+  pub header_ended : (t : Bytes) {s : State} {n : Reading} → s ≡ nothing_taken
+      → n ≡ rest_of Header t 0 (first_stop Header t) 0 (graph_now (tables refs subs trans pool s.sizes) own s.own) → n ≡ from_header_lines t
+  header_ended t e d = d ∙ rw e (sym (header_start t))
 
 -- ------------------------------------------------------------------ the end
 
 -- a reading into a buffer, by the buffer's size
 module _ (buffer : Bytes) {r : Refusal} (m : Reading) where
-  pub finished : {n : Reading} {b : Bytes} → length buffer ≡ recordLength → n ≡ m → (r ≡ refusalOf n) × (b ≡ (outcomeOf n).buffer)
-      → (r ≡ refusalInto m buffer) × (b ≡ (readingInto m buffer).buffer)
-  finished e d f = rw (written-opened buffer e, ← d) f
+  pub finished : {n : Reading} {b : Bytes} → length buffer ≡ record_length → n ≡ m → (r ≡ refusal_of n) × (b ≡ (outcome_of n).buffer)
+      → (r ≡ refusal_into m buffer) × (b ≡ (reading_into m buffer).buffer)
+  finished e d f = rw (written_opened buffer e, ← d) f
 
-  pub wrong_size : (length buffer ≡ recordLength → ⊥) → r ≡ unplaced 15
-      → (r ≡ refusalInto m buffer) × (buffer ≡ (readingInto m buffer).buffer)
-  wrong_size e d = rw (written-refused buffer e) (d, refl)
+  pub wrong_size : (length buffer ≡ record_length → ⊥) → r ≡ unplaced 15
+      → (r ≡ refusal_into m buffer) × (buffer ≡ (reading_into m buffer).buffer)
+  wrong_size e d = rw (written_refused buffer e) (d, refl)
 
 -- what a refusal answers and leaves in the buffer
-pub refused-ended : (at : Sizes → Tables) (own buffer : Bytes) {r : Ended} {b : Bytes} {q : Given} → r ≡ Refused q → length buffer ≡ recordLength
-    → b ≡ put buffer 0 (replicate (length buffer - 0) 0) → (refusalIn (Denied q) ≡ refusalOf (readingOf at own r)) × (b ≡ (outcomeOf (readingOf at own r)).buffer)
-refused-ended at own buffer e l d = rw e (refl, d ∙ cleared buffer recordLength l)
+pub refused_ended : (at : Sizes → Tables) (own buffer : Bytes) {r : Ended} {b : Bytes} {q : Given} → r ≡ Refused q → length buffer ≡ record_length
+    → b ≡ put buffer 0 (replicate (length buffer - 0) 0) → (refusal_in (Denied q) ≡ refusal_of (reading_of at own r)) × (b ≡ (outcome_of (reading_of at own r)).buffer)
+refused_ended at own buffer e l d = rw e (refl, d ∙ cleared buffer record_length l)

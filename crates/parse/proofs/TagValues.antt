@@ -6,8 +6,8 @@ use Prim.Native.Nat.{ℕ}
 use Rattle.model.specs.declared.Kind.{Kind}
 use Rattle.model.specs.declared.Kind.TheVariants.{Subgraph, Translation}
 use Rattle.model.specs.Bytes.{Bytes}
-use Rattle.model.specs.Record.{GraphName, empty, withName}
-use Rattle.model.specs.Reading.{judged, Reading, done, refused, afterReading, nameValue, addTo, tagNumber, tagValue, fromTags}
+use Rattle.model.specs.Record.{GraphName, empty, with_name}
+use Rattle.model.specs.Reading.{judged, Reading, done, refused, after_reading, name_value, add_to, tag_number, tag_value, from_tags}
 use Rattle.sorted.specs.declared.putting.Sizes.{Sizes}
 use Rattle.sorted.specs.Tables.{Tables}
 use Rattle.intake.specs.declared.taking.State.{State}
@@ -17,58 +17,58 @@ use Rattle.parse.specs.declared.ending.Refusal.{Refusal}
 use Rattle.parse.specs.declared.ending.Ended.{Ended}
 use Rattle.parse.specs.declared.ending.Ended.TheVariants.{Done, Refused}
 use Rattle.fields.specs.declared.field.Source.TheVariants.{Tag}
-use Rattle.fields.specs.Rest.{restOf}
-use Rattle.intake.specs.State.{graphNow, FittingState, FittingAfter, TakenAs}
-use Rattle.parse.specs.Refusals.{refusalGiven, unplaced}
-use Rattle.parse.specs.Endings.{firstStop, readingOf, FittingAtEnd, EndedAs}
+use Rattle.fields.specs.Rest.{rest_of}
+use Rattle.intake.specs.State.{graph_now, FittingState, FittingAfter, TakenAs}
+use Rattle.parse.specs.Refusals.{refusal_given, unplaced}
+use Rattle.parse.specs.Endings.{first_stop, reading_of, FittingAtEnd, EndedAs}
 use Rattle.model.specs.Values.{given}
-use Rattle.fields.proofs.Rest.{tag-start}
+use Rattle.fields.proofs.Rest.{tag_start}
 
 module _ {at : Sizes → Tables} {own : Bytes} {has : Bool} where
   -- ---------------------------------------------------------------- the name
 
-  pub name-absent : has ≡ false → (v : Bytes) (s : State) → FittingState (at s.sizes) own s.own → EndedAs at own (Done s) (nameValue (given has v) (graphNow (at s.sizes) own s.own))
-  unfolding nameValue
-  name-absent e v s h = rw e (record { same = refl; fitting = h })
+  pub name_absent : has ≡ false → (v : Bytes) (s : State) → FittingState (at s.sizes) own s.own → EndedAs at own (Done s) (name_value (given has v) (graph_now (at s.sizes) own s.own))
+  unfolding name_value
+  name_absent e v s h = rw e (record { same = refl; fitting = h })
 
-  module _ (e : has ≡ true) (v : Bytes) (g : GraphName) {k : FieldTaken} (a : TakenAs at own k (judged (withName v g))) where
-    pub name-took : {s : State} → k ≡ Took s → EndedAs at own (Done s) (nameValue (given has v) g)
-    unfolding nameValue
-    name-took d = rw (e, ← a.same, d) (record {
+  module _ (e : has ≡ true) (v : Bytes) (g : GraphName) {k : FieldTaken} (a : TakenAs at own k (judged (with_name v g))) where
+    pub name_took : {s : State} → k ≡ Took s → EndedAs at own (Done s) (name_value (given has v) g)
+    unfolding name_value
+    name_took d = rw (e, ← a.same, d) (record {
       same = refl;
       fitting = subst (λ (x : FieldTaken). FittingAfter at own x) d a.fitting;
     })
 
-    pub name-wrong : {n : ℕ} → k ≡ Wrong n → (q : Refusal) → refusalGiven q ≡ unplaced n → EndedAs at own (Refused q) (nameValue (given has v) g)
-    unfolding nameValue
-    name-wrong d q m = rw (e, ← a.same, d) (record { same = ap refused m; fitting = tt })
+    pub name_wrong : {n : ℕ} → k ≡ Wrong n → (q : Refusal) → refusal_given q ≡ unplaced n → EndedAs at own (Refused q) (name_value (given has v) g)
+    unfolding name_value
+    name_wrong d q m = rw (e, ← a.same, d) (record { same = ap refused m; fitting = tt })
 
 -- ------------------------------------------------------------------ a tag of relations
 
-pub tag-absent : {at : Sizes → Tables} {own : Bytes} {has : Bool} (k : Kind) → has ≡ false → (v : Bytes) (r : Ended) → FittingAtEnd at own r
-    → EndedAs at own r (afterReading (readingOf at own r) (tagValue (tagNumber k) (addTo k) (given has v)))
-unfolding tagValue
-tag-absent k e v (Done s) h = rw e (record { same = refl; fitting = h })
-tag-absent k e v (Refused q) h = record { same = refl; fitting = tt }
+pub tag_absent : {at : Sizes → Tables} {own : Bytes} {has : Bool} (k : Kind) → has ≡ false → (v : Bytes) (r : Ended) → FittingAtEnd at own r
+    → EndedAs at own r (after_reading (reading_of at own r) (tag_value (tag_number k) (add_to k) (given has v)))
+unfolding tag_value
+tag_absent k e v (Done s) h = rw e (record { same = refl; fitting = h })
+tag_absent k e v (Refused q) h = record { same = refl; fitting = tt }
 
 pub tag_read : (at : Sizes → Tables) {at' : Sizes → Tables} (own : Bytes) {own' : Bytes} {has : Bool} {r : Ended} {s : State} {q : Ended} (k : Kind) → has ≡ true → (v : Bytes) → r ≡ Done s
-    → EndedAs at' own' q (restOf (Tag k) v 0 (firstStop (Tag k) v) 0 (graphNow (at s.sizes) own s.own))
-    → EndedAs at' own' q (afterReading (readingOf at own r) (tagValue (tagNumber k) (addTo k) (given has v)))
-tag_read at own {s = s} k e v d h = rw (d, e, tag-start k v (graphNow (at s.sizes) own s.own)) h
+    → EndedAs at' own' q (rest_of (Tag k) v 0 (first_stop (Tag k) v) 0 (graph_now (at s.sizes) own s.own))
+    → EndedAs at' own' q (after_reading (reading_of at own r) (tag_value (tag_number k) (add_to k) (given has v)))
+tag_read at own {s = s} k e v d h = rw (d, e, tag_start k v (graph_now (at s.sizes) own s.own)) h
 
 -- ------------------------------------------------------------------ all three
 
-after_both : (r : Reading) (f h : GraphName → Reading) → afterReading (afterReading r f) h ≡ afterReading r (λ g. afterReading (f g) h)
+after_both : (r : Reading) (f h : GraphName → Reading) → after_reading (after_reading r f) h ≡ after_reading r (λ g. after_reading (f g) h)
 after_both (done g) f h = refl
 after_both (refused r) f h = refl
 
-pub tags-read : (n s t : Option Bytes)
-    → fromTags n s t ≡ afterReading (afterReading (nameValue n empty) (tagValue (tagNumber Subgraph) (addTo Subgraph) s)) (tagValue (tagNumber Translation) (addTo Translation) t)
-unfolding fromTags
-tags-read n s t = sym (after_both (nameValue n empty) (tagValue 9 (addTo Subgraph) s) (tagValue 10 (addTo Translation) t))
+pub tags_read : (n s t : Option Bytes)
+    → from_tags n s t ≡ after_reading (after_reading (name_value n empty) (tag_value (tag_number Subgraph) (add_to Subgraph) s)) (tag_value (tag_number Translation) (add_to Translation) t)
+unfolding from_tags
+tags_read n s t = sym (after_both (name_value n empty) (tag_value 9 (add_to Subgraph) s) (tag_value 10 (add_to Translation) t))
 
 -- each reading from what the one before came to
-pub tags-ended : {at : Sizes → Tables} {own : Bytes} {r : Ended} {x y : Reading} {g : GraphName} (n s t : Option Bytes)
-    → EndedAs at own r (afterReading x (tagValue (tagNumber Translation) (addTo Translation) t))
-    → x ≡ afterReading y (tagValue (tagNumber Subgraph) (addTo Subgraph) s) → y ≡ nameValue n g → g ≡ empty → EndedAs at own r (fromTags n s t)
-tags-ended n s t h a b c = rw tags-read (rw (a, b, c) at h)
+pub tags_ended : {at : Sizes → Tables} {own : Bytes} {r : Ended} {x y : Reading} {g : GraphName} (n s t : Option Bytes)
+    → EndedAs at own r (after_reading x (tag_value (tag_number Translation) (add_to Translation) t))
+    → x ≡ after_reading y (tag_value (tag_number Subgraph) (add_to Subgraph) s) → y ≡ name_value n g → g ≡ empty → EndedAs at own r (from_tags n s t)
+tags_ended n s t h a b c = rw tags_read (rw (a, b, c) at h)

@@ -1,9 +1,9 @@
 // How a reading ends: with what it has then, or with a refusal.
 ghost use Rattle.std.specs.Prelude.{◌≡◌};
 ghost use Rattle.model.specs.Reading.{quotes};
-ghost use Rattle.model.specs.Outcome.{refusalOf};
-ghost use Rattle.fields.specs.Rest.{refuseField};
-ghost use Rattle.parse.specs.Refusals.{refusalGiven, unplaced};
+ghost use Rattle.model.specs.Outcome.{refusal_of};
+ghost use Rattle.fields.specs.Rest.{refuse_field};
+ghost use Rattle.parse.specs.Refusals.{refusal_given, unplaced};
 
 use fields::{Field, Tally};
 use intake::State;
@@ -35,7 +35,7 @@ fn quotes_part(number: usize) -> bool
 
 // The refusal of a field, counted by a tally: it quotes the field's part and has the offset of that, or quotes nothing and has the field's.
 pub(crate) fn refuse(number: usize, field: Field, tally: Tally) -> Refusal
-    ensures { refusalGiven result ≡ refusalOf (refuseField field tally number) }
+    ensures { refusal_given result ≡ refusal_of (refuse_field field tally number) }
 {
     let line = tally.lines;
     if quotes_part(number) {
@@ -58,7 +58,7 @@ pub(crate) fn refuse(number: usize, field: Field, tally: Tally) -> Refusal
 
 // A refusal that has no line and quotes nothing, at the front of what is read.
 pub(crate) fn refuse_unplaced(number: usize) -> Refusal
-    ensures { refusalGiven result ≡ unplaced number }
+    ensures { refusal_given result ≡ unplaced number }
 {
     Refusal {
         number,

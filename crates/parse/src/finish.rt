@@ -1,10 +1,10 @@
 // The end of a reading: the record stored, or the empty one left with the refusal.
 ghost use Rattle.std.specs.Prelude.{◌≡◌, length};
-ghost use Rattle.model.specs.Outcome.{outcomeOf, refusalOf};
-ghost use Rattle.model.specs.Layout.{recordLength};
+ghost use Rattle.model.specs.Outcome.{outcome_of, refusal_of};
+ghost use Rattle.model.specs.Layout.{record_length};
 ghost use Rattle.sorted.specs.Tables.{tables};
-ghost use Rattle.parse.specs.Endings.{readingOf, FittingAtEnd};
-ghost use Rattle.parse.specs.Refusals.{refusalIn};
+ghost use Rattle.parse.specs.Endings.{reading_of, FittingAtEnd};
+ghost use Rattle.parse.specs.Refusals.{refusal_in};
 
 use crate::ending::{Ended, Refusal};
 
@@ -25,8 +25,8 @@ pub(crate) fn finish(
     ended: Ended,
     buffer: &mut [u8],
 ) -> Answer
-    requires { FittingAtEnd (tables refs.old subs.old trans.old pool.old) own.now ended × (length buffer.old ≡ recordLength) }
-    ensures { (refusalIn result ≡ refusalOf (readingOf (tables refs.old subs.old trans.old pool.old) own.now ended)) × (buffer.new ≡ (outcomeOf (readingOf (tables refs.old subs.old trans.old pool.old) own.now ended)).buffer) }
+    requires { FittingAtEnd (tables refs.old subs.old trans.old pool.old) own.now ended × (length buffer.old ≡ record_length) }
+    ensures { (refusal_in result ≡ refusal_of (reading_of (tables refs.old subs.old trans.old pool.old) own.now ended)) × (buffer.new ≡ (outcome_of (reading_of (tables refs.old subs.old trans.old pool.old) own.now ended)).buffer) }
 {
     match ended {
         Ended::Done(state) => {

@@ -1,8 +1,8 @@
 // Reading header lines.
 ghost use Rattle.std.specs.Prelude.{◌≡◌};
-ghost use Rattle.model.specs.Reading.{fromHeaderLines};
-ghost use Rattle.model.specs.Outcome.{readInto, refusalInto};
-ghost use Rattle.parse.specs.Refusals.{refusalIn};
+ghost use Rattle.model.specs.Reading.{from_header_lines};
+ghost use Rattle.model.specs.Outcome.{read_into, refusal_into};
+ghost use Rattle.parse.specs.Refusals.{refusal_in};
 
 use crate::ending::refuse_unplaced;
 use crate::finish::{Answer, finish};
@@ -13,7 +13,7 @@ use record::RECORD_LENGTH;
 
 // Reads header lines into a record buffer.
 pub fn from_header_lines(t: &[u8], buffer: &mut [u8]) -> Answer
-    ensures { (refusalIn result ≡ refusalInto (fromHeaderLines t.now) buffer.old) × (buffer.new ≡ (readInto t.now buffer.old).buffer) }
+    ensures { (refusal_in result ≡ refusal_into (from_header_lines t.now) buffer.old) × (buffer.new ≡ (read_into t.now buffer.old).buffer) }
 {
     if buffer.len() != RECORD_LENGTH {
         return Answer::Refused(refuse_unplaced(15));

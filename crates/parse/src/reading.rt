@@ -1,9 +1,9 @@
 // A text read field by field into the working tables.
 ghost use Rattle.std.specs.Prelude.{◌≡◌};
 ghost use Rattle.sorted.specs.Tables.{tables};
-ghost use Rattle.fields.specs.Rest.{restOf};
-ghost use Rattle.intake.specs.State.{graphNow, FittingState};
-ghost use Rattle.parse.specs.Endings.{firstStop, EndedAs};
+ghost use Rattle.fields.specs.Rest.{rest_of};
+ghost use Rattle.intake.specs.State.{graph_now, FittingState};
+ghost use Rattle.parse.specs.Endings.{first_stop, EndedAs};
 
 use crate::ending::{Ended, refuse};
 use fields::{Source, Tally, next};
@@ -11,7 +11,7 @@ use intake::{FieldTaken, State, take_field};
 
 // Where the first part of a text stops: header lines begin with a line, a tag with a relation.
 fn first_stop(source: Source, t: &[u8]) -> usize
-    ensures { result ≡ firstStop source t.now }
+    ensures { result ≡ first_stop source t.now }
 {
     match source {
         Source::Header => 0,
@@ -31,7 +31,7 @@ pub(crate) fn read_text(
     begun: State,
 ) -> Ended
     requires { FittingState (tables refs.old subs.old trans.old pool.old begun.sizes) own.old begun.own }
-    ensures { EndedAs (tables refs.new subs.new trans.new pool.new) own.new result (restOf source t.now 0 (firstStop source t.now) 0 (graphNow (tables refs.old subs.old trans.old pool.old begun.sizes) own.old begun.own)) }
+    ensures { EndedAs (tables refs.new subs.new trans.new pool.new) own.new result (rest_of source t.now 0 (first_stop source t.now) 0 (graph_now (tables refs.old subs.old trans.old pool.old begun.sizes) own.old begun.own)) }
 {
     let mut state = begun;
     let mut stop = first_stop(source, t);

@@ -1,12 +1,12 @@
 // Reading the values of the three tags: name, subgraph, translation.
 ghost use Rattle.std.specs.Prelude.{◌≡◌};
-ghost use Rattle.model.specs.Reading.{afterReading, nameValue, addTo, tagNumber, tagValue, fromTags};
-ghost use Rattle.model.specs.Outcome.{readTagsInto, refusalInto};
+ghost use Rattle.model.specs.Reading.{after_reading, name_value, add_to, tag_number, tag_value, from_tags};
+ghost use Rattle.model.specs.Outcome.{read_tags_into, refusal_into};
 ghost use Rattle.sorted.specs.Tables.{tables};
-ghost use Rattle.intake.specs.State.{Lengths, graphNow, FittingState};
-ghost use Rattle.parse.specs.Endings.{readingOf, FittingAtEnd, EndedAs};
+ghost use Rattle.intake.specs.State.{Lengths, graph_now, FittingState};
+ghost use Rattle.parse.specs.Endings.{reading_of, FittingAtEnd, EndedAs};
 ghost use Rattle.model.specs.Values.{given};
-ghost use Rattle.parse.specs.Refusals.{refusalIn};
+ghost use Rattle.parse.specs.Refusals.{refusal_in};
 
 use crate::ending::{Ended, refuse_unplaced};
 use crate::finish::{Answer, finish};
@@ -28,7 +28,7 @@ fn read_name(
     begun: State,
 ) -> Ended
     requires { FittingState (tables refs.old subs.old trans.old pool.old begun.sizes) own.old begun.own }
-    ensures { EndedAs (tables refs.new subs.new trans.new pool.new) own.new result (nameValue (given has_name name.now) (graphNow (tables refs.old subs.old trans.old pool.old begun.sizes) own.old begun.own)) }
+    ensures { EndedAs (tables refs.new subs.new trans.new pool.new) own.new result (name_value (given has_name name.now) (graph_now (tables refs.old subs.old trans.old pool.old begun.sizes) own.old begun.own)) }
 {
     if !has_name {
         return Ended::Done(begun);
@@ -52,7 +52,7 @@ fn read_tag(
     ended: Ended,
 ) -> Ended
     requires { FittingAtEnd (tables refs.old subs.old trans.old pool.old) own.old ended }
-    ensures { EndedAs (tables refs.new subs.new trans.new pool.new) own.new result (afterReading (readingOf (tables refs.old subs.old trans.old pool.old) own.old ended) (tagValue (tagNumber kind) (addTo kind) (given has_value value.now))) }
+    ensures { EndedAs (tables refs.new subs.new trans.new pool.new) own.new result (after_reading (reading_of (tables refs.old subs.old trans.old pool.old) own.old ended) (tag_value (tag_number kind) (add_to kind) (given has_value value.now))) }
 {
     if !has_value {
         return ended;
@@ -87,7 +87,7 @@ fn read_tags(
     own: &mut [u8],
 ) -> Ended
     requires { Lengths refs.old subs.old trans.old pool.old own.old }
-    ensures { EndedAs (tables refs.new subs.new trans.new pool.new) own.new result (fromTags (given has_name name.now) (given has_subgraph subgraph.now) (given has_translation translation.now)) }
+    ensures { EndedAs (tables refs.new subs.new trans.new pool.new) own.new result (from_tags (given has_name name.now) (given has_subgraph subgraph.now) (given has_translation translation.now)) }
 {
     let after_name = read_name(has_name, name, refs, subs, trans, pool, own, begin());
     let after_subgraph = read_tag(
@@ -124,7 +124,7 @@ pub fn from_tags(
     translation: &[u8],
     buffer: &mut [u8],
 ) -> Answer
-    ensures { (refusalIn result ≡ refusalInto (fromTags (given has_name name.now) (given has_subgraph subgraph.now) (given has_translation translation.now)) buffer.old) × (buffer.new ≡ (readTagsInto (given has_name name.now) (given has_subgraph subgraph.now) (given has_translation translation.now) buffer.old).buffer) }
+    ensures { (refusal_in result ≡ refusal_into (from_tags (given has_name name.now) (given has_subgraph subgraph.now) (given has_translation translation.now)) buffer.old) × (buffer.new ≡ (read_tags_into (given has_name name.now) (given has_subgraph subgraph.now) (given has_translation translation.now) buffer.old).buffer) }
 {
     if buffer.len() != RECORD_LENGTH {
         return Answer::Refused(refuse_unplaced(15));

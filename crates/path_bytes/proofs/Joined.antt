@@ -12,103 +12,103 @@ use lib.Seq.{set_comm, sets, sets-eq}
 use borrow.Author.Tests.{le-leb, lt-leb}
 use Rattle.model.specs.Bytes.{Bytes, put}
 use Rattle.model.specs.Numbers.{le16}
-use Rattle.model.specs.Path.{Step, pathBodies, pathBytes}
-use Rattle.model.specs.Outcome.{found, sized, outputAfter}
-use Rattle.text.proofs.Put.{length-put, put-append}
-use Rattle.search.specs.Steps.{maxNodes}
-use Rattle.search.specs.Queue.{nodeAt, prevAt, moveAt}
-use Rattle.search.specs.Promise.{pathTo}
-use Rattle.search.specs.Spans.{nameBy}
-use Rattle.search.specs.Names.{stepOf}
-use Rattle.search.proofs.Reading.{length-step, length-first, length-low, back-less}
-use Rattle.path_bytes.specs.Layout.{firstEntry, entryLength, entryAt}
-use Rattle.path_bytes.specs.Written.{entriesWith, pathBack, startName, bodiesTo, Writable, NamesWritten, PathWritten}
-use Rattle.path_bytes.proofs.PathBytes.{entries-snoc, length-entries, entries-path, length-path, number-kind, node-last, no_steps, path-last, bodies-last, bodies-step}
+use Rattle.model.specs.Path.{Step, path_bodies, path_bytes}
+use Rattle.model.specs.Outcome.{found, sized, output_after}
+use Rattle.text.proofs.Put.{length_put, put_append}
+use Rattle.search.specs.Steps.{max_nodes}
+use Rattle.search.specs.Queue.{node_at, prev_at, move_at}
+use Rattle.search.specs.Promise.{path_to}
+use Rattle.search.specs.Spans.{name_by}
+use Rattle.search.specs.Names.{step_of}
+use Rattle.search.proofs.Reading.{length_step, length_first, length_low, back_less}
+use Rattle.path_bytes.specs.Layout.{first_entry, entry_length, entry_at}
+use Rattle.path_bytes.specs.Written.{entries_with, path_back, start_name, bodies_to, Writable, NamesWritten, PathWritten}
+use Rattle.path_bytes.proofs.PathBytes.{entries_snoc, length_entries, entries_path, length_path, number_kind, node_last, no_steps, path_last, bodies_last, bodies_step}
 
 -- ------------------------------------------------------------------ two texts at places apart
 
-put-sets : (out : Bytes) (i : ℕ) (t : Bytes) → i + length t ≤ length out → put out i t ≡ sets out i t
+put_sets : (out : Bytes) (i : ℕ) (t : Bytes) → i + length t ≤ length out → put out i t ≡ sets out i t
 unfolding put
-put-sets out i t room = sym (sets-eq t out i room ∙ simp append_assoc)
+put_sets out i t room = sym (sets-eq t out i room ∙ simp append_assoc)
 
 set_before : (t out : Bytes) (i k x : ℕ) → i < k → sets (set out i x) k t ≡ set (sets out k t) i x
 set_before [] out i k x l = refl
 set_before (y ∷ t) out i k x l = rw (set_comm out i k x y (λ e. omega arith)) (set_before t (set out k y) i (suc k) x (omega arith))
 
-sets-swap : (s t out : Bytes) (i k : ℕ) → i + length s ≤ k → sets (sets out k t) i s ≡ sets (sets out i s) k t
-sets-swap [] t out i k apart = refl
-sets-swap (x ∷ s) t out i k apart =
+sets_swap : (s t out : Bytes) (i k : ℕ) → i + length s ≤ k → sets (sets out k t) i s ≡ sets (sets out i s) k t
+sets_swap [] t out i k apart = refl
+sets_swap (x ∷ s) t out i k apart =
     ap (λ (o : Bytes). sets o (suc i) s) (sym (set_before t out i k x (omega arith)))
-    ∙ sets-swap s t (set out i x) (suc i) k (omega arith)
+    ∙ sets_swap s t (set out i x) (suc i) k (omega arith)
 
-put-swap : (out : Bytes) (i k : ℕ) (s t : Bytes) → i + length s ≤ k → k + length t ≤ length out → put (put out k t) i s ≡ put (put out i s) k t
-put-swap out i k s t apart room =
-    let l : i + length s ≤ length (put out k t) = rw (length-put out k t room) (omega arith) in
-    let r : k + length t ≤ length (put out i s) = rw (length-put out i s (omega arith)) room in
-    put-sets (put out k t) i s l ∙ ap (λ (o : Bytes). sets o i s) (put-sets out k t room) ∙ sets-swap s t out i k apart
-    ∙ sym (put-sets (put out i s) k t r ∙ ap (λ (o : Bytes). sets o k t) (put-sets out i s (omega arith)))
+put_swap : (out : Bytes) (i k : ℕ) (s t : Bytes) → i + length s ≤ k → k + length t ≤ length out → put (put out k t) i s ≡ put (put out i s) k t
+put_swap out i k s t apart room =
+    let l : i + length s ≤ length (put out k t) = rw (length_put out k t room) (omega arith) in
+    let r : k + length t ≤ length (put out i s) = rw (length_put out i s (omega arith)) room in
+    put_sets (put out k t) i s l ∙ ap (λ (o : Bytes). sets o i s) (put_sets out k t room) ∙ sets_swap s t out i k apart
+    ∙ sym (put_sets (put out i s) k t r ∙ ap (λ (o : Bytes). sets o k t) (put_sets out i s (omega arith)))
 
 -- ------------------------------------------------------------------ one name more
 
 -- behind the entries es, and behind the bodies bs from byte `at` on
-rows_more : (out : Bytes) (at : ℕ) (es bs e b : Bytes) → firstEntry + (length es + length e) ≤ at → at + (length bs + length b) ≤ length out
-    → put (put (put (put out firstEntry es) at bs) (firstEntry + length es) e) (at + length bs) b ≡ put (put out firstEntry (es ++ e)) at (bs ++ b)
+rows_more : (out : Bytes) (at : ℕ) (es bs e b : Bytes) → first_entry + (length es + length e) ≤ at → at + (length bs + length b) ≤ length out
+    → put (put (put (put out first_entry es) at bs) (first_entry + length es) e) (at + length bs) b ≡ put (put out first_entry (es ++ e)) at (bs ++ b)
 rows_more out at es bs e b l m =
-    let f : length (put out firstEntry es) ≡ length out = length-put out firstEntry es (omega arith) in
-    let g : length (put out firstEntry (es ++ e)) ≡ length out = length-put out firstEntry (es ++ e) (rw length-append (omega arith)) in
-    rw (put-swap (put out firstEntry es) (firstEntry + length es) at e bs (omega arith) (omega arith), put-append out firstEntry es e (omega arith))
-    (put-append (put out firstEntry (es ++ e)) at bs b (omega arith))
+    let f : length (put out first_entry es) ≡ length out = length_put out first_entry es (omega arith) in
+    let g : length (put out first_entry (es ++ e)) ≡ length out = length_put out first_entry (es ++ e) (rw length-append (omega arith)) in
+    rw (put_swap (put out first_entry es) (first_entry + length es) at e bs (omega arith) (omega arith), put_append out first_entry es e (omega arith))
+    (put_append (put out first_entry (es ++ e)) at bs b (omega arith))
 
 module _ (b c : Bytes) (spans q : List ℕ) (place step : ℕ) (out : Bytes) (at : ℕ) (w : Writable b c spans q place step out at) where
-  pub few-steps : step < maxNodes
-  few-steps = omega (arith, w.steps, w.from.small, length-low q place w.from.back place (omega arith))
+  pub few_steps : step < max_nodes
+  few_steps = omega (arith, w.steps, w.from.small, length_low q place w.from.back place (omega arith))
 
-  first-place : step ≡ 0 → place ≡ 0
-  first-place z = go (ℕ_discrete place 0)
+  first_place : step ≡ 0 → place ≡ 0
+  first_place z = go (ℕ_discrete place 0)
     where
       go : Dec (place ≡ 0) → place ≡ 0
       go (yes e) = e
-      go (no d) = absurd (omega (arith, w.steps, length-step q place w.from.back place (omega arith) (omega arith)))
+      go (no d) = absurd (omega (arith, w.steps, length_step q place w.from.back place (omega arith) (omega arith)))
 
-  further-place : (step ≡ 0 → ⊥) → 0 < place
-  further-place z = go (ℕ_discrete place 0)
+  further_place : (step ≡ 0 → ⊥) → 0 < place
+  further_place z = go (ℕ_discrete place 0)
     where
       go : Dec (place ≡ 0) → 0 < place
-      go (yes e) = absurd (z (w.steps ∙ length-first q place w.from.back place e))
+      go (yes e) = absurd (z (w.steps ∙ length_first q place w.from.back place e))
       go (no d) = omega arith
 
-  module _ (name : Bytes) (is : name ≡ nameBy b c spans (nodeAt q place)) (kind : ℕ) where
+  module _ (name : Bytes) (is : name ≡ name_by b c spans (node_at q place)) (kind : ℕ) where
     module _ (z : step ≡ 0) where
-      alone : pathBack b c spans q place ≡ []
-      alone = ap (pathBack b c spans q) (first-place z) ∙ no_steps b c spans q
+      alone : path_back b c spans q place ≡ []
+      alone = ap (path_back b c spans q) (first_place z) ∙ no_steps b c spans q
 
-      is-start : startName b c spans q ≡ name
-      is-start = sym (is ∙ ap (λ (j : ℕ). nameBy b c spans (nodeAt q j)) (first-place z))
+      is_start : start_name b c spans q ≡ name
+      is_start = sym (is ∙ ap (λ (j : ℕ). name_by b c spans (node_at q j)) (first_place z))
 
       pub first_fits : at + length name ≤ length out
-      unfolding pathBodies
-      first_fits = rw (alone, is-start) at w.bodies
+      unfolding path_bodies
+      first_fits = rw (alone, is_start) at w.bodies
 
       -- the first name
-      pub names-first : (r : ℕ) (o₁ o₂ : Bytes) → o₁ ≡ put out (entryAt 0) (le16 (length name) ++ le16 kind) → (r ≡ at + length name) × (o₂ ≡ put o₁ at name)
+      pub names_first : (r : ℕ) (o₁ o₂ : Bytes) → o₁ ≡ put out (entry_at 0) (le16 (length name) ++ le16 kind) → (r ≡ at + length name) × (o₂ ≡ put o₁ at name)
           → NamesWritten b c spans q place out at kind r o₂
-      unfolding entriesWith pathBodies
-      names-first r o₁ o₂ e f = record { end = f.0 ∙ rw (alone, is-start); is = f.1 ∙ rw (e, alone, is-start) }
+      unfolding entries_with path_bodies
+      names_first r o₁ o₂ e f = record { end = f.0 ∙ rw (alone, is_start); is = f.1 ∙ rw (e, alone, is_start) }
 
     module _ (z : step ≡ 0 → ⊥) where
-      falls : prevAt q place < place
-      falls = w.from.back.falls place (further-place z) (omega arith)
+      falls : prev_at q place < place
+      falls = w.from.back.falls place (further_place z) (omega arith)
 
-      fewer : length (pathTo q place) ≡ length (pathTo q (prevAt q place)) + 1
-      fewer = length-step q place w.from.back place (further-place z) (omega arith)
+      fewer : length (path_to q place) ≡ length (path_to q (prev_at q place)) + 1
+      fewer = length_step q place w.from.back place (further_place z) (omega arith)
 
-      shorter : bodiesTo b c spans q place ≡ bodiesTo b c spans q (prevAt q place) + length name
-      shorter = bodies-step b c spans q place w.from.back place (further-place z) (omega arith) ∙ rw is
+      shorter : bodies_to b c spans q place ≡ bodies_to b c spans q (prev_at q place) + length name
+      shorter = bodies_step b c spans q place w.from.back place (further_place z) (omega arith) ∙ rw is
 
-      pub writable-prev : Writable b c spans q (prevAt q place) (step - 1) out at
-      writable-prev = record {
+      pub writable_prev : Writable b c spans q (prev_at q place) (step - 1) out at
+      writable_prev = record {
         from = record {
-          back = back-less q place (prevAt q place) w.from.back (omega (arith, falls));
+          back = back_less q place (prev_at q place) w.from.back (omega (arith, falls));
           nodes = λ j l. w.from.nodes j (omega (arith, falls));
           small = omega (arith, w.from.small, falls);
         };
@@ -117,34 +117,34 @@ module _ (b c : Bytes) (spans q : List ℕ) (place step : ℕ) (out : Bytes) (at
         bodies = omega (arith, w.bodies, shorter);
       }
 
-      pub further-fits : (end : ℕ) → end ≡ at + bodiesTo b c spans q (prevAt q place) → end + length name ≤ length out
-      further-fits end e = omega (arith, w.bodies, shorter)
+      pub further_fits : (end : ℕ) → end ≡ at + bodies_to b c spans q (prev_at q place) → end + length name ≤ length out
+      further_fits end e = omega (arith, w.bodies, shorter)
 
       -- a further one
-      pub names_more : (end r : ℕ) (o₁ o₂ o₃ : Bytes) → NamesWritten b c spans q (prevAt q place) out at (moveAt q place / maxNodes) end o₁
-          → o₂ ≡ put o₁ (entryAt step) (le16 (length name) ++ le16 kind) → (r ≡ end + length name) × (o₃ ≡ put o₂ end name)
+      pub names_more : (end r : ℕ) (o₁ o₂ o₃ : Bytes) → NamesWritten b c spans q (prev_at q place) out at (move_at q place / max_nodes) end o₁
+          → o₂ ≡ put o₁ (entry_at step) (le16 (length name) ++ le16 kind) → (r ≡ end + length name) × (o₃ ≡ put o₂ end name)
           → NamesWritten b c spans q place out at kind r o₃
       names_more end r o₁ o₂ o₃ d e f =
-          let a = startName b c spans q in
-          let ss = pathBack b c spans q (prevAt q place) in
-          let s = stepOf (nameBy b c spans) (moveAt q place) in
-          let es = entriesWith (moveAt q place / maxNodes) a ss in
-          let long : length es ≡ entryLength * step =
-          omega (arith, length-entries (moveAt q place / maxNodes) a ss, length-map (pathTo q (prevAt q place)) (stepOf (nameBy b c spans)), fewer, w.steps) in
-          let i : entryAt step ≡ firstEntry + length es = omega arith in
-          let z = further-place z in
+          let a = start_name b c spans q in
+          let ss = path_back b c spans q (prev_at q place) in
+          let s = step_of (name_by b c spans) (move_at q place) in
+          let es = entries_with (move_at q place / max_nodes) a ss in
+          let long : length es ≡ entry_length * step =
+          omega (arith, length_entries (move_at q place / max_nodes) a ss, length-map (path_to q (prev_at q place)) (step_of (name_by b c spans)), fewer, w.steps) in
+          let i : entry_at step ≡ first_entry + length es = omega arith in
+          let z = further_place z in
           record {
             end = omega (arith, shorter, d.end, f.0);
             is =
                 f.1 ∙ rw (e, d.end, d.is, i)
-                (rows_more out at es (pathBodies a ss) (le16 (length name) ++ le16 kind) name (omega (arith, w.entries)) (omega (arith, w.bodies, shorter))
+                (rows_more out at es (path_bodies a ss) (le16 (length name) ++ le16 kind) name (omega (arith, w.entries)) (omega (arith, w.bodies, shorter))
                 ∙ rw (
                   is,
-                  bodies-last b c spans q place w.from.back place z (omega arith),
-                  path-last b c spans q place w.from.back place z (omega arith),
-                  entries-snoc kind a ss s,
-                  number-kind (moveAt q place) (omega arith),
-                  node-last q place,
+                  bodies_last b c spans q place w.from.back place z (omega arith),
+                  path_last b c spans q place w.from.back place z (omega arith),
+                  entries_snoc kind a ss s,
+                  number_kind (move_at q place) (omega arith),
+                  node_last q place,
                 ));
           }
 
@@ -155,34 +155,34 @@ unfolding put
 put_front out t = rw zero-add
 
 -- the count, then the entries, then the bodies
-whole-path : (a : Bytes) (ss : List Step) (out : Bytes) → length (pathBytes a ss) ≤ length out
-    → put (put (put out 0 (le16 (length ss + 1))) firstEntry (entriesWith 2 a ss)) (entryAt (length ss + 1)) (pathBodies a ss) ≡ put out 0 (pathBytes a ss)
-unfolding pathBytes
-whole-path a ss out l =
-    let m = length-entries 2 a ss in
-    let n : firstEntry + length (entriesWith 2 a ss) + length (pathBodies a ss) ≤ length out = omega (arith, length-path a ss) in
-    let i : entryAt (length ss + 1) ≡ 0 + length (le16 (length ss + 1) ++ entriesWith 2 a ss) = omega arith in
-    rw (put-append out 0 (le16 (length ss + 1)) (entriesWith 2 a ss) (omega arith), i)
-    (put-append out 0 (le16 (length ss + 1) ++ entriesWith 2 a ss) (pathBodies a ss) (omega arith) ∙ rw (add-one, entries-path a ss))
+whole_path : (a : Bytes) (ss : List Step) (out : Bytes) → length (path_bytes a ss) ≤ length out
+    → put (put (put out 0 (le16 (length ss + 1))) first_entry (entries_with 2 a ss)) (entry_at (length ss + 1)) (path_bodies a ss) ≡ put out 0 (path_bytes a ss)
+unfolding path_bytes
+whole_path a ss out l =
+    let m = length_entries 2 a ss in
+    let n : first_entry + length (entries_with 2 a ss) + length (path_bodies a ss) ≤ length out = omega (arith, length_path a ss) in
+    let i : entry_at (length ss + 1) ≡ 0 + length (le16 (length ss + 1) ++ entries_with 2 a ss) = omega arith in
+    rw (put_append out 0 (le16 (length ss + 1)) (entries_with 2 a ss) (omega arith), i)
+    (put_append out 0 (le16 (length ss + 1) ++ entries_with 2 a ss) (path_bodies a ss) (omega arith) ∙ rw (add-one, entries_path a ss))
 
-module _ (b c : Bytes) (spans q : List ℕ) (place step at bodies : ℕ) (steps : step ≡ length (pathTo q place)) (behind : at ≡ entryAt (step + 1))
-    (size : bodies ≡ bodiesTo b c spans q place) (out : Bytes) where
+module _ (b c : Bytes) (spans q : List ℕ) (place step at bodies : ℕ) (steps : step ≡ length (path_to q place)) (behind : at ≡ entry_at (step + 1))
+    (size : bodies ≡ bodies_to b c spans q place) (out : Bytes) where
   abbrev bytes : Bytes
-  bytes = pathBytes (startName b c spans q) (pathBack b c spans q place)
+  bytes = path_bytes (start_name b c spans q) (path_back b c spans q place)
 
-  steps-are : length (pathBack b c spans q place) ≡ step
-  steps-are = length-map (pathTo q place) (stepOf (nameBy b c spans)) ∙ sym steps
+  steps_are : length (path_back b c spans q place) ≡ step
+  steps_are = length-map (path_to q place) (step_of (name_by b c spans)) ∙ sym steps
 
-  whole-size : length bytes ≡ at + bodies
-  whole-size = omega (arith, length-path (startName b c spans q) (pathBack b c spans q place), steps-are)
+  whole_size : length bytes ≡ at + bodies
+  whole_size = omega (arith, length_path (start_name b c spans q) (path_back b c spans q place), steps_are)
 
-  pub path-short : length out < at + bodies → PathWritten b c spans q place out false out
-  path-short l = let e = lt-leb (length bytes) (length out) (omega (arith, whole-size)) in record { fits = sym e; is = rw e }
+  pub path_short : length out < at + bodies → PathWritten b c spans q place out false out
+  path_short l = let e = lt-leb (length bytes) (length out) (omega (arith, whole_size)) in record { fits = sym e; is = rw e }
 
-  pub path-written : at + bodies ≤ length out → (o₁ : Bytes) → o₁ ≡ put out 0 (le16 (step + 1)) → (r : ℕ) (o₂ : Bytes) → NamesWritten b c spans q place o₁ at 2 r o₂
+  pub path_written : at + bodies ≤ length out → (o₁ : Bytes) → o₁ ≡ put out 0 (le16 (step + 1)) → (r : ℕ) (o₂ : Bytes) → NamesWritten b c spans q place o₁ at 2 r o₂
       → PathWritten b c spans q place out true o₂
-  path-written room o₁ count r o₂ e =
-      let f = le-leb (length bytes) (length out) (omega (arith, whole-size)) in
-      let g = whole-path (startName b c spans q) (pathBack b c spans q place) out (omega (arith, whole-size)) in
-      let h : put out 0 bytes ≡ outputAfter (sized (length out) (found bytes)) out = rw f (put_front out bytes) in
-      record { fits = sym f; is = e.is ∙ rw (count, behind) (rw steps-are at g) ∙ h }
+  path_written room o₁ count r o₂ e =
+      let f = le-leb (length bytes) (length out) (omega (arith, whole_size)) in
+      let g = whole_path (start_name b c spans q) (path_back b c spans q place) out (omega (arith, whole_size)) in
+      let h : put out 0 bytes ≡ output_after (sized (length out) (found bytes)) out = rw f (put_front out bytes) in
+      record { fits = sym f; is = e.is ∙ rw (count, behind) (rw steps_are at g) ∙ h }

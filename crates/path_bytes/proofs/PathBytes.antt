@@ -8,95 +8,95 @@ use lib.ListN.{length, length-append}
 use borrow.Author.Tests.{lt-ltb, le-ltb}
 use Rattle.model.specs.Bytes.{Bytes}
 use Rattle.model.specs.Numbers.{le16}
-use Rattle.model.specs.Path.{Step, kindNumber, pathEntries, pathBodies, pathBytes}
-use Rattle.search.specs.Steps.{maxNodes, maxMoves}
-use Rattle.search.specs.Queue.{nodeAt, prevAt, moveAt}
-use Rattle.search.specs.Promise.{pathTo, Back}
-use Rattle.search.specs.Spans.{spanLengths, nameBy}
-use Rattle.search.specs.Names.{kindOf, stepOf}
-use Rattle.search.proofs.Walk.{path-first}
+use Rattle.model.specs.Path.{Step, kind_number, path_entries, path_bodies, path_bytes}
+use Rattle.search.specs.Steps.{max_nodes, max_moves}
+use Rattle.search.specs.Queue.{node_at, prev_at, move_at}
+use Rattle.search.specs.Promise.{path_to, Back}
+use Rattle.search.specs.Spans.{span_lengths, name_by}
+use Rattle.search.specs.Names.{kind_of, step_of}
+use Rattle.search.proofs.Walk.{path_first}
 use Rattle.search.proofs.Reading.{back_step}
-use Rattle.path_bytes.specs.Layout.{entryLength, entryAt}
-use Rattle.path_bytes.specs.Written.{entriesWith, pathBack, startName, bodiesTo}
+use Rattle.path_bytes.specs.Layout.{entry_length, entry_at}
+use Rattle.path_bytes.specs.Written.{entries_with, path_back, start_name, bodies_to}
 
 -- ------------------------------------------------------------------ entries and bodies
 
-pub entries-snoc : (k : ℕ) (a : Bytes) (ss : List Step) (s : Step)
-    → entriesWith k a (ss ++ (s ∷ [])) ≡ entriesWith (kindNumber s.kind) a ss ++ (le16 (length s.next) ++ le16 k)
-unfolding entriesWith
-entries-snoc k a [] s = refl
-entries-snoc k a (t ∷ ss) s = rw (entries-snoc k t.next ss s) (simp append_assoc)
+pub entries_snoc : (k : ℕ) (a : Bytes) (ss : List Step) (s : Step)
+    → entries_with k a (ss ++ (s ∷ [])) ≡ entries_with (kind_number s.kind) a ss ++ (le16 (length s.next) ++ le16 k)
+unfolding entries_with
+entries_snoc k a [] s = refl
+entries_snoc k a (t ∷ ss) s = rw (entries_snoc k t.next ss s) (simp append_assoc)
 
-pub length-entries : (k : ℕ) (a : Bytes) (ss : List Step) → length (entriesWith k a ss) ≡ entryLength * (length ss + 1)
-unfolding entriesWith
-length-entries k a [] = refl
-length-entries k a (s ∷ ss) = omega (arith, length-entries k s.next ss)
+pub length_entries : (k : ℕ) (a : Bytes) (ss : List Step) → length (entries_with k a ss) ≡ entry_length * (length ss + 1)
+unfolding entries_with
+length_entries k a [] = refl
+length_entries k a (s ∷ ss) = omega (arith, length_entries k s.next ss)
 
-pub entries-path : (a : Bytes) (ss : List Step) → pathEntries a ss ≡ entriesWith 2 a ss
-unfolding entriesWith pathEntries
-entries-path a [] = refl
-entries-path a (s ∷ ss) = rw (entries-path s.next ss)
+pub entries_path : (a : Bytes) (ss : List Step) → path_entries a ss ≡ entries_with 2 a ss
+unfolding entries_with path_entries
+entries_path a [] = refl
+entries_path a (s ∷ ss) = rw (entries_path s.next ss)
 
-bodies-snoc : (a : Bytes) (ss : List Step) (s : Step) → pathBodies a (ss ++ (s ∷ [])) ≡ pathBodies a ss ++ s.next
-unfolding pathBodies
-bodies-snoc a [] s = refl
-bodies-snoc a (t ∷ ss) s = rw (bodies-snoc t.next ss s) (simp append_assoc)
+bodies_snoc : (a : Bytes) (ss : List Step) (s : Step) → path_bodies a (ss ++ (s ∷ [])) ≡ path_bodies a ss ++ s.next
+unfolding path_bodies
+bodies_snoc a [] s = refl
+bodies_snoc a (t ∷ ss) s = rw (bodies_snoc t.next ss s) (simp append_assoc)
 
-pub length-path : (a : Bytes) (ss : List Step) → length (pathBytes a ss) ≡ entryAt (length ss + 1) + length (pathBodies a ss)
-unfolding pathBytes
-length-path a ss = simp length-append (omega (arith, ap length (entries-path a ss), length-entries 2 a ss))
+pub length_path : (a : Bytes) (ss : List Step) → length (path_bytes a ss) ≡ entry_at (length ss + 1) + length (path_bodies a ss)
+unfolding path_bytes
+length_path a ss = simp length-append (omega (arith, ap length (entries_path a ss), length_entries 2 a ss))
 
 -- the kind of a move, as a number
-pub number-kind : (m : ℕ) → m < maxMoves → kindNumber (kindOf m) ≡ m / maxNodes
-number-kind m l = go (dec_lt m maxNodes)
+pub number_kind : (m : ℕ) → m < max_moves → kind_number (kind_of m) ≡ m / max_nodes
+number_kind m l = go (dec_lt m max_nodes)
   where
-    go : Dec (m < maxNodes) → kindNumber (kindOf m) ≡ m / maxNodes
-    go (yes s) = rw (lt-ltb m maxNodes s) (omega arith)
-    go (no s) = rw (le-ltb m maxNodes (omega arith)) (omega arith)
+    go : Dec (m < max_nodes) → kind_number (kind_of m) ≡ m / max_nodes
+    go (yes s) = rw (lt-ltb m max_nodes s) (omega arith)
+    go (no s) = rw (le-ltb m max_nodes (omega arith)) (omega arith)
 
 -- the node that the last move leads to
-pub node-last : (q : List ℕ) (j : ℕ) → moveAt q j % maxNodes ≡ nodeAt q j
-node-last q j = omega arith
+pub node_last : (q : List ℕ) (j : ℕ) → move_at q j % max_nodes ≡ node_at q j
+node_last q j = omega arith
 
 -- ------------------------------------------------------------------ the path to a place
 
 module _ (b c : Bytes) (spans q : List ℕ) where
-  pub no_steps : pathBack b c spans q 0 ≡ []
-  no_steps = rw (path-first q)
+  pub no_steps : path_back b c spans q 0 ≡ []
+  no_steps = rw (path_first q)
 
-  pub bodies-first : bodiesTo b c spans q 0 ≡ length (startName b c spans q)
-  unfolding pathBodies
-  bodies-first = rw no_steps
+  pub bodies_first : bodies_to b c spans q 0 ≡ length (start_name b c spans q)
+  unfolding path_bodies
+  bodies_first = rw no_steps
 
   module _ (place : ℕ) (back : Back q place) (j : ℕ) (z : 0 < j) (l : j ≤ place) where
-    pub path-last : pathBack b c spans q j ≡ pathBack b c spans q (prevAt q j) ++ (stepOf (nameBy b c spans) (moveAt q j) ∷ [])
-    path-last = rw (back_step q place back j z l) (map-append (stepOf (nameBy b c spans)) (pathTo q (prevAt q j)) (moveAt q j ∷ []))
+    pub path_last : path_back b c spans q j ≡ path_back b c spans q (prev_at q j) ++ (step_of (name_by b c spans) (move_at q j) ∷ [])
+    path_last = rw (back_step q place back j z l) (map-append (step_of (name_by b c spans)) (path_to q (prev_at q j)) (move_at q j ∷ []))
 
-    pub bodies-last : pathBodies (startName b c spans q) (pathBack b c spans q j)
-        ≡ pathBodies (startName b c spans q) (pathBack b c spans q (prevAt q j)) ++ nameBy b c spans (nodeAt q j)
-    bodies-last = rw path-last (bodies-snoc (startName b c spans q) (pathBack b c spans q (prevAt q j)) (stepOf (nameBy b c spans) (moveAt q j)) ∙ rw (node-last q j))
+    pub bodies_last : path_bodies (start_name b c spans q) (path_back b c spans q j)
+        ≡ path_bodies (start_name b c spans q) (path_back b c spans q (prev_at q j)) ++ name_by b c spans (node_at q j)
+    bodies_last = rw path_last (bodies_snoc (start_name b c spans q) (path_back b c spans q (prev_at q j)) (step_of (name_by b c spans) (move_at q j)) ∙ rw (node_last q j))
 
-    pub bodies-step : bodiesTo b c spans q j ≡ bodiesTo b c spans q (prevAt q j) + length (nameBy b c spans (nodeAt q j))
-    bodies-step = rw bodies-last (simp length-append)
+    pub bodies_step : bodies_to b c spans q j ≡ bodies_to b c spans q (prev_at q j) + length (name_by b c spans (node_at q j))
+    bodies_step = rw bodies_last (simp length-append)
 
 -- ------------------------------------------------------------------ how long the names are together
 
 -- after so many bytes of names, the path to place j is left
 pub record Adding (b c : Bytes) (spans q : List ℕ) (place j total : ℕ) : Type 0 where
   pub low : j ≤ place
-  pub bound : total + spanLengths * j ≤ spanLengths * place
-  pub left : total + bodiesTo b c spans q j ≡ bodiesTo b c spans q place
+  pub bound : total + span_lengths * j ≤ span_lengths * place
+  pub left : total + bodies_to b c spans q j ≡ bodies_to b c spans q place
 
 module _ (b c : Bytes) (spans q : List ℕ) (place : ℕ) (back : Back q place) where
   module _ (j total : ℕ) (a : Adding b c spans q place j total) (name : Bytes) where
-    pub adding-step : name ≡ nameBy b c spans (nodeAt q j) → length name < spanLengths → 0 < j → Adding b c spans q place (prevAt q j) (total + length name)
-    adding-step is s z =
+    pub adding_step : name ≡ name_by b c spans (node_at q j) → length name < span_lengths → 0 < j → Adding b c spans q place (prev_at q j) (total + length name)
+    adding_step is s z =
         let f = back.falls j z a.low in
         record {
           low = omega (arith, a.low);
           bound = omega (arith, a.bound);
-          left = omega (arith, a.left, ap length is, bodies-step b c spans q place back j z a.low);
+          left = omega (arith, a.left, ap length is, bodies_step b c spans q place back j z a.low);
         }
 
-    pub adding-end : name ≡ startName b c spans q → j ≡ 0 → total + length name ≡ bodiesTo b c spans q place
-    adding-end is z = omega (arith, a.left, ap length is, ap (bodiesTo b c spans q) z, bodies-first b c spans q)
+    pub adding_end : name ≡ start_name b c spans q → j ≡ 0 → total + length name ≡ bodies_to b c spans q place
+    adding_end is z = omega (arith, a.left, ap length is, ap (bodies_to b c spans q) z, bodies_first b c spans q)

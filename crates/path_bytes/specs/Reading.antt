@@ -4,26 +4,26 @@ use Rattle.model.specs.declared.Kind.{Kind}
 use Rattle.model.specs.declared.Kind.TheVariants.{Subgraph, Translation}
 use Rattle.model.specs.Bytes.{Bytes}
 use Rattle.model.specs.Describe.{StepFrom}
-use Rattle.path_bytes.specs.Layout.{firstEntry, entryLength, roomForPath, nameCount, bodiesAt, nameLength, stepKind}
+use Rattle.path_bytes.specs.Layout.{first_entry, entry_length, room_for_path, name_count, bodies_at, name_length, step_kind}
 
 -- the kind that has this number
-abbrev pub kindNumbered : ℕ → Kind
-kindNumbered zero = Subgraph
-kindNumbered (suc n) = Translation
+abbrev pub kind_numbered : ℕ → Kind
+kind_numbered zero = Subgraph
+kind_numbered (suc n) = Translation
 
 -- the name whose entry stands at byte `entry` and whose body at byte `body`, and the kind of the step that leaves it
-abbrev pub stepAt : Bytes → ℕ → ℕ → StepFrom
-stepAt p entry body = record { name = take (nameLength p entry) (drop body p); kind = kindNumbered (stepKind p entry) }
+abbrev pub step_at : Bytes → ℕ → ℕ → StepFrom
+step_at p entry body = record { name = take (name_length p entry) (drop body p); kind = kind_numbered (step_kind p entry) }
 
 -- so many steps, one behind the other
-unfoldable pub stepsAt : Bytes → ℕ → ℕ → ℕ → List StepFrom
-stepsAt p entry body zero = []
-stepsAt p entry body (suc n) = stepAt p entry body ∷ stepsAt p (entry + entryLength) (body + nameLength p entry) n
+unfoldable pub steps_at : Bytes → ℕ → ℕ → ℕ → List StepFrom
+steps_at p entry body zero = []
+steps_at p entry body (suc n) = step_at p entry body ∷ steps_at p (entry + entry_length) (body + name_length p entry) n
 
 -- so many entries stand in p from byte `entry` on
 pub record EntriesIn (p : Bytes) (entry count : ℕ) : Type 0 where
-  pub size : length p ≡ roomForPath
-  pub end : entry + entryLength * count ≤ roomForPath
+  pub size : length p ≡ room_for_path
+  pub end : entry + entry_length * count ≤ room_for_path
 
 -- and the bodies' places are no large numbers
 pub record StepsIn (p : Bytes) (entry body count : ℕ) : Type 0 where
@@ -32,13 +32,13 @@ pub record StepsIn (p : Bytes) (entry body count : ℕ) : Type 0 where
 
 -- the bytes of a path: at least one name, and all entries
 pub record PathIn (p : Bytes) : Type 0 where
-  pub size : length p ≡ roomForPath
-  pub some : 0 < nameCount p
-  pub end : bodiesAt p ≤ roomForPath
+  pub size : length p ≡ room_for_path
+  pub some : 0 < name_count p
+  pub end : bodies_at p ≤ room_for_path
 
 -- its first name, and its steps
-abbrev pub startAt : Bytes → Bytes
-startAt p = take (nameLength p firstEntry) (drop (bodiesAt p) p)
+abbrev pub start_at : Bytes → Bytes
+start_at p = take (name_length p first_entry) (drop (bodies_at p) p)
 
-abbrev pub pathSteps : Bytes → List StepFrom
-pathSteps p = stepsAt p firstEntry (bodiesAt p) (nameCount p - 1)
+abbrev pub path_steps : Bytes → List StepFrom
+path_steps p = steps_at p first_entry (bodies_at p) (name_count p - 1)

@@ -2,11 +2,11 @@
 ghost use Rattle.std.specs.Prelude.{◌≡◌, ◌++◌, ◌+◌, ◌*◌, ◌≤◌, ◌<◌, length};
 ghost use Rattle.model.specs.Bytes.{put};
 ghost use Rattle.model.specs.Numbers.{le16};
-ghost use Rattle.search.specs.Steps.{maxNodes};
-ghost use Rattle.search.specs.Queue.{nodeAt};
-ghost use Rattle.search.specs.Spans.{spanLengths, nameBy};
-ghost use Rattle.path_bytes.specs.Layout.{entryAt};
-ghost use Rattle.path_bytes.specs.Written.{bodiesTo, Readback, Writable, NamesWritten, PathWritten};
+ghost use Rattle.search.specs.Steps.{max_nodes};
+ghost use Rattle.search.specs.Queue.{node_at};
+ghost use Rattle.search.specs.Spans.{span_lengths, name_by};
+ghost use Rattle.path_bytes.specs.Layout.{entry_at};
+ghost use Rattle.path_bytes.specs.Written.{bodies_to, Readback, Writable, NamesWritten, PathWritten};
 
 use crate::reading::{KIND_IN_ENTRY, bodies_at, entry_at};
 use search::{MAX_MOVES, MAX_NODES, name_of, path_length};
@@ -23,8 +23,8 @@ fn name_at<'a>(
     queue: &[u32],
     place: usize,
 ) -> &'a [u8]
-    requires { (place < length queue.now) × (nodeAt queue.now place < length spans.now) }
-    ensures { (result.now ≡ nameBy first.now second.now spans.now (nodeAt queue.now place)) × (length result.now < spanLengths) }
+    requires { (place < length queue.now) × (node_at queue.now place < length spans.now) }
+    ensures { (result.now ≡ name_by first.now second.now spans.now (node_at queue.now place)) × (length result.now < span_lengths) }
 {
     let node = (queue[place] % MAX_NODES) as usize;
     name_of(first, second, spans[node])
@@ -32,8 +32,8 @@ fn name_at<'a>(
 
 // Writes the entry of the name at this step: its length and its step's kind.
 fn put_entry(out: &mut [u8], step: usize, size: usize, kind: usize)
-    requires { (step < maxNodes) × (entryAt (step + 1) ≤ length out.old) }
-    ensures { out.new ≡ put out.old (entryAt step) (le16 size ++ le16 kind) }
+    requires { (step < max_nodes) × (entry_at (step + 1) ≤ length out.old) }
+    ensures { out.new ≡ put out.old (entry_at step) (le16 size ++ le16 kind) }
 {
     let entry = entry_at(step);
     write16(out, entry, size);
@@ -49,7 +49,7 @@ fn bodies_length<'a>(
     place: usize,
 ) -> usize
     requires { Readback spans.now queue.now place }
-    ensures { (result ≡ bodiesTo first.now second.now spans.now queue.now place) × (result < spanLengths * maxNodes) }
+    ensures { (result ≡ bodies_to first.now second.now spans.now queue.now place) × (result < span_lengths * max_nodes) }
 {
     let mut j = place;
     let mut total = 0;

@@ -1,6 +1,6 @@
 // The path questions: whether one graph is a subgraph of another, or translates to it, and the best path between them.
 //
-// Both functions take any slices, and equal the definitions `askSubgraph` and `askFull` of `model/specs/Outcome.antt`;
+// Both functions take any slices, and equal the definitions `ask_subgraph` and `ask_full` of `model/specs/Outcome.antt`;
 // `path_bytes/specs/Replies.antt` says what each case of a reply means. `proofs/Demand.antt` has demand 3 of those definitions.
 #![tactic(auto)]
 

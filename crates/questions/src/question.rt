@@ -1,11 +1,11 @@
 // The path questions on any two buffers: the tests, and tables of a fitting size.
 ghost use Rattle.std.specs.Prelude.{◌≡◌, ◌≤◌, length};
-ghost use Rattle.model.specs.Outcome.{askSubgraph, askFull};
+ghost use Rattle.model.specs.Outcome.{ask_subgraph, ask_full};
 ghost use Rattle.path_bytes.specs.Replies.{Replies};
-ghost use Rattle.union.specs.Steps.{pairsOfBoth};
-ghost use Rattle.union.specs.United.{namesOfBoth};
-ghost use Rattle.questions.specs.Asked.{askOf, Owned, fromNode, targetNode, RepliesOwn};
-ghost use Rattle.questions.specs.Room.{smallNames, smallPairs, Roomy};
+ghost use Rattle.union.specs.Steps.{pairs_of_both};
+ghost use Rattle.union.specs.United.{names_of_both};
+ghost use Rattle.questions.specs.Asked.{ask_of, Owned, from_node, target_node, RepliesOwn};
+ghost use Rattle.questions.specs.Room.{small_names, small_pairs, Roomy};
 
 use crate::tables::{
     fits, large_numbers, large_pairs, large_spans, small_numbers, small_pairs, small_spans,
@@ -23,8 +23,8 @@ struct Ends {
 
 // The nodes of the own names of two records, in a table of the nodes of b's names by place and behind these of c's.
 fn own_nodes(b: &[u8], c: &[u8], numbers: &[u16]) -> Ends
-    requires { Owned b.now c.now × (namesOfBoth b.now c.now ≤ length numbers.now) }
-    ensures { (result.from ≡ fromNode b.now numbers.now) × (result.target ≡ targetNode b.now c.now numbers.now) }
+    requires { Owned b.now c.now × (names_of_both b.now c.now ≤ length numbers.now) }
+    ensures { (result.from ≡ from_node b.now numbers.now) × (result.target ≡ target_node b.now c.now numbers.now) }
 {
     let own = own_place(b) - 1;
     let other = name_count(b) + (own_place(c) - 1);
@@ -73,7 +73,7 @@ fn ask_in<'a>(
 
 // The question in tables for few names and pairs, which take less time to clear.
 fn ask_small<'a>(b: &'a [u8], c: &'a [u8], full: bool, out: &mut [u8]) -> Reply
-    requires { Owned b.now c.now × (namesOfBoth b.now c.now ≤ smallNames) × (pairsOfBoth b.now c.now ≤ smallPairs) }
+    requires { Owned b.now c.now × (names_of_both b.now c.now ≤ small_names) × (pairs_of_both b.now c.now ≤ small_pairs) }
     ensures { RepliesOwn full b.now c.now out.old result out.new }
 {
     let mut rows = small_pairs();
@@ -123,7 +123,7 @@ fn ask_large<'a>(b: &'a [u8], c: &'a [u8], full: bool, out: &mut [u8]) -> Reply
 
 // The path from the graph that b describes to the one that c describes, over the pairs of both records: subgraph pairs alone, or all.
 fn ask<'a>(b: &'a [u8], c: &'a [u8], full: bool, out: &mut [u8]) -> Reply
-    ensures { Replies (askOf full b.now c.now (length out.old)) out.old result out.new }
+    ensures { Replies (ask_of full b.now c.now (length out.old)) out.old result out.new }
 {
     let number = fault_of_both(b, c);
     if number != 0 {
@@ -143,7 +143,7 @@ fn ask<'a>(b: &'a [u8], c: &'a [u8], full: bool, out: &mut [u8]) -> Reply
 
 // Whether the graph of b is a subgraph of that of c, by subgraph pairs; on a yes the path's bytes go to the front of the output.
 pub fn is_subgraph_of<'a>(b: &'a [u8], c: &'a [u8], out: &mut [u8]) -> Reply
-    ensures { Replies (askSubgraph b.now c.now (length out.old)) out.old result out.new }
+    ensures { Replies (ask_subgraph b.now c.now (length out.old)) out.old result out.new }
 {
     ask(b, c, false, out)
 }
@@ -151,7 +151,7 @@ pub fn is_subgraph_of<'a>(b: &'a [u8], c: &'a [u8], out: &mut [u8]) -> Reply
 // Whether coordinates of the graph of b translate to that of c, by pairs of both kinds; on a yes the path's bytes go to the front of
 // the output.
 pub fn translates_to<'a>(b: &'a [u8], c: &'a [u8], out: &mut [u8]) -> Reply
-    ensures { Replies (askFull b.now c.now (length out.old)) out.old result out.new }
+    ensures { Replies (ask_full b.now c.now (length out.old)) out.old result out.new }
 {
     ask(b, c, true, out)
 }

@@ -1,9 +1,9 @@
 // The tables of a question: small ones, the large ones for any two records, and whether two records fit into the small ones.
 ghost use Rattle.std.specs.Prelude.{◌≡◌, true, ◌+◌, ◌≤◌, length};
-ghost use Rattle.model.specs.Layout.{recordLength};
-ghost use Rattle.union.specs.Steps.{pairsOfBoth};
-ghost use Rattle.union.specs.United.{namesOfBoth};
-ghost use Rattle.questions.specs.Room.{smallNames, smallPairs, largeNames, largePairs};
+ghost use Rattle.model.specs.Layout.{record_length};
+ghost use Rattle.union.specs.Steps.{pairs_of_both};
+ghost use Rattle.union.specs.United.{names_of_both};
+ghost use Rattle.questions.specs.Room.{small_names, small_pairs, large_names, large_pairs};
 
 use model::Kind;
 use record::{MAX_NAMES, MAX_PAIRS, name_count, pair_count};
@@ -22,50 +22,50 @@ const LARGE_PAIRS: usize = 4 * MAX_PAIRS;
 
 // A small table by pair.
 pub(crate) fn small_pairs() -> [u32; SMALL_PAIRS]
-    ensures { length result ≡ smallPairs }
+    ensures { length result ≡ small_pairs }
 {
     [0; SMALL_PAIRS]
 }
 
 // A small table of spans, by name.
 pub(crate) fn small_spans() -> [u32; SMALL_NAMES]
-    ensures { length result ≡ smallNames }
+    ensures { length result ≡ small_names }
 {
     [0; SMALL_NAMES]
 }
 
 // A small table of numbers, by name, and one more for the end of the last.
 pub(crate) fn small_numbers() -> [u16; SMALL_NAMES + 1]
-    ensures { length result ≡ smallNames + 1 }
+    ensures { length result ≡ small_names + 1 }
 {
     [0; SMALL_NAMES + 1]
 }
 
 // A table for the pairs of any two records.
 pub(crate) fn large_pairs() -> [u32; LARGE_PAIRS]
-    ensures { length result ≡ largePairs }
+    ensures { length result ≡ large_pairs }
 {
     [0; LARGE_PAIRS]
 }
 
 // A table for the spans of their names.
 pub(crate) fn large_spans() -> [u32; LARGE_NAMES]
-    ensures { length result ≡ largeNames }
+    ensures { length result ≡ large_names }
 {
     [0; LARGE_NAMES]
 }
 
 // A table for numbers, by name, and one more for the end of the last.
 pub(crate) fn large_numbers() -> [u16; LARGE_NAMES + 1]
-    ensures { length result ≡ largeNames + 1 }
+    ensures { length result ≡ large_names + 1 }
 {
     [0; LARGE_NAMES + 1]
 }
 
 // Whether the small tables have room for the names and the pairs of both records.
 pub(crate) fn fits(b: &[u8], c: &[u8]) -> bool
-    requires { (length b.now ≡ recordLength) × (length c.now ≡ recordLength) }
-    ensures { result ≡ true → (namesOfBoth b.now c.now ≤ smallNames) × (pairsOfBoth b.now c.now ≤ smallPairs) }
+    requires { (length b.now ≡ record_length) × (length c.now ≡ record_length) }
+    ensures { result ≡ true → (names_of_both b.now c.now ≤ small_names) × (pairs_of_both b.now c.now ≤ small_pairs) }
 {
     if SMALL_NAMES < name_count(b) + name_count(c) {
         return false;

@@ -11,88 +11,88 @@ use Rattle.model.specs.declared.Kind.{Kind}
 use Rattle.model.specs.declared.Kind.TheVariants.{Subgraph, Translation}
 use Rattle.model.specs.Bytes.{Bytes}
 use Rattle.model.specs.Numbers.{number}
-use Rattle.model.specs.Record.{Pair, GraphName, names, maxNameBytes}
-use Rattle.model.specs.Layout.{bodyLength, bodyStart, countsLength, entryLength, pairLength, nameCount, ownNumber, recordLength, nameAt, pairsFrom, ownAt, shown, decode, bodiesAt, pairCount, tableAt}
-use Rattle.text.proofs.Places.{getD-member}
-use Rattle.record.specs.Test.{pairsAt, pairsOk, entriesOf, namesOf}
-use Rattle.record.proofs.Words.{length-rowsAt, getD-rowsAt}
-use Rattle.record.proofs.Entries.{entry-within}
-use Rattle.record.proofs.Places.{under-pair}
-use Rattle.record.proofs.TestLaws.{pairsOk-true}
-use Rattle.model.specs.Questions.{pairsOf}
-use Rattle.record.proofs.Coded.{names-meaning}
+use Rattle.model.specs.Record.{Pair, GraphName, names, max_name_bytes}
+use Rattle.model.specs.Layout.{body_length, body_start, counts_length, entry_length, pair_length, name_count, own_number, record_length, name_at, pairs_from, own_at, shown, decode, bodies_at, pair_count, table_at}
+use Rattle.text.proofs.Places.{get_or_member}
+use Rattle.record.specs.Test.{pairs_at, pairs_ok, entries_of, names_of}
+use Rattle.record.proofs.Words.{length_rows_at, get_or_rows_at}
+use Rattle.record.proofs.Entries.{entry_within}
+use Rattle.record.proofs.Places.{under_pair}
+use Rattle.record.proofs.TestLaws.{pairs_ok_true}
+use Rattle.model.specs.Questions.{pairs_of}
+use Rattle.record.proofs.Coded.{names_meaning}
 use Rattle.record.proofs.Write.{read}
-use Rattle.record.proofs.ReadWrite.{held_fits, length-names}
-use Rattle.record.proofs.Shown.{nameAt-names, shown-meaning}
-use Rattle.record.proofs.Laws.{decode-held, decode-shown}
+use Rattle.record.proofs.ReadWrite.{held_fits, length_names}
+use Rattle.record.proofs.Shown.{name_at_names, shown_meaning}
+use Rattle.record.proofs.Laws.{decode_held, decode_shown}
 
 -- the pair whose places stand at byte `at`
-abbrev pub pairAt : Bytes → ℕ → Pair
-pairAt b at = record { from = nameAt b (number b at); to = nameAt b (number b (at + 2)) }
+abbrev pub pair_at : Bytes → ℕ → Pair
+pair_at b at = record { from = name_at b (number b at); to = name_at b (number b (at + 2)) }
 
-length-pairsFrom : (b : Bytes) (at k : ℕ) → length (pairsFrom b at k) ≡ k
-unfolding pairsFrom
-length-pairsFrom b at zero = refl
-length-pairsFrom b at (suc k) = ap suc (length-pairsFrom b (at + pairLength) k)
+length_pairs_from : (b : Bytes) (at k : ℕ) → length (pairs_from b at k) ≡ k
+unfolding pairs_from
+length_pairs_from b at zero = refl
+length_pairs_from b at (suc k) = ap suc (length_pairs_from b (at + pair_length) k)
 
-getD-pairsFrom : (b : Bytes) (at k i : ℕ) (d : Pair) → i < k → get_or (pairsFrom b at k) i d ≡ pairAt b (at + pairLength * i)
-unfolding pairsFrom
-getD-pairsFrom b at zero i d h = absurd (omega arith)
-getD-pairsFrom b at (suc k) zero d h = rw add-zero
-getD-pairsFrom b at (suc k) (suc i) d h =
-    let e : at + pairLength * suc i ≡ at + pairLength + pairLength * i = omega arith in
-    rw e (getD-pairsFrom b (at + pairLength) k i d (omega arith))
+get_or_pairs_from : (b : Bytes) (at k i : ℕ) (d : Pair) → i < k → get_or (pairs_from b at k) i d ≡ pair_at b (at + pair_length * i)
+unfolding pairs_from
+get_or_pairs_from b at zero i d h = absurd (omega arith)
+get_or_pairs_from b at (suc k) zero d h = rw add-zero
+get_or_pairs_from b at (suc k) (suc i) d h =
+    let e : at + pair_length * suc i ≡ at + pair_length + pair_length * i = omega arith in
+    rw e (get_or_pairs_from b (at + pair_length) k i d (omega arith))
 
 module _ (b : Bytes) (g : GraphName) (e : decode b ≡ some g) where
   -- ------------------------------------------------------------------ names
 
-  pub record-names : names g ≡ namesOf b
-  record-names =
-      let h = decode-held b g e in
-      ap names (sym (decode-shown b g e) ∙ shown-meaning b h) ∙ names-meaning (read b) (held_fits b h)
+  pub record_names : names g ≡ names_of b
+  record_names =
+      let h = decode_held b g e in
+      ap names (sym (decode_shown b g e) ∙ shown_meaning b h) ∙ names_meaning (read b) (held_fits b h)
 
-  pub record-count : length (names g) ≡ nameCount b
-  record-count = ap length record-names ∙ length-names b (decode-held b g e)
+  pub record_count : length (names g) ≡ name_count b
+  record_count = ap length record_names ∙ length_names b (decode_held b g e)
 
-  pub record-name : (i : ℕ) → i < nameCount b → get_or (names g) i [] ≡ nameAt b i
-  record-name i k = rw record-names (sym (nameAt-names b (decode-held b g e) i k))
+  pub record_name : (i : ℕ) → i < name_count b → get_or (names g) i [] ≡ name_at b i
+  record_name i k = rw record_names (sym (name_at_names b (decode_held b g e) i k))
 
-  pub record-own : g.name ≡ ownAt b (ownNumber b)
+  pub record_own : g.name ≡ own_at b (own_number b)
   unfolding shown
-  record-own = ap (λ (h : GraphName). h.name) (sym (decode-shown b g e))
+  record_own = ap (λ (h : GraphName). h.name) (sym (decode_shown b g e))
 
   -- a name's bytes lie within the buffer, and are few
-  pub name-within : (i : ℕ) → i < nameCount b
-      → (bodiesAt b + bodyStart b i + bodyLength b i ≤ recordLength) × (bodyLength b i ≤ maxNameBytes)
-  name-within i k =
-      let h = decode-held b g e in
-      let l = length-rowsAt entryLength (nameCount b) (drop countsLength b) in
-      let w = rw (getD-rowsAt entryLength (nameCount b) countsLength b i k) at (entry-within (entriesOf b) 0 i h.row (omega arith)) in
+  pub name_within : (i : ℕ) → i < name_count b
+      → (bodies_at b + body_start b i + body_length b i ≤ record_length) × (body_length b i ≤ max_name_bytes)
+  name_within i k =
+      let h = decode_held b g e in
+      let l = length_rows_at entry_length (name_count b) (drop counts_length b) in
+      let w = rw (get_or_rows_at entry_length (name_count b) counts_length b i k) at (entry_within (entries_of b) 0 i h.row (omega arith)) in
       (omega arith, w.2)
 
   -- ------------------------------------------------------------------ pairs
 
-  pub record-pairs : (k : Kind) → pairsOf k g ≡ pairsFrom b (tableAt k b) (pairCount k b)
+  pub record_pairs : (k : Kind) → pairs_of k g ≡ pairs_from b (table_at k b) (pair_count k b)
   unfolding shown
-  record-pairs Subgraph = ap (λ (h : GraphName). h.subgraph) (sym (decode-shown b g e))
-  record-pairs Translation = ap (λ (h : GraphName). h.translation) (sym (decode-shown b g e))
+  record_pairs Subgraph = ap (λ (h : GraphName). h.subgraph) (sym (decode_shown b g e))
+  record_pairs Translation = ap (λ (h : GraphName). h.translation) (sym (decode_shown b g e))
 
-  pub record-pairCount : (k : Kind) → length (pairsOf k g) ≡ pairCount k b
-  record-pairCount k = rw (record-pairs k) (length-pairsFrom b (tableAt k b) (pairCount k b))
+  pub record_pair_count : (k : Kind) → length (pairs_of k g) ≡ pair_count k b
+  record_pair_count k = rw (record_pairs k) (length_pairs_from b (table_at k b) (pair_count k b))
 
-  pub record-pair : (k : Kind) (i : ℕ) (d : Pair) → i < pairCount k b → get_or (pairsOf k g) i d ≡ pairAt b (tableAt k b + pairLength * i)
-  record-pair k i d h = rw (record-pairs k) (getD-pairsFrom b (tableAt k b) (pairCount k b) i d h)
+  pub record_pair : (k : Kind) (i : ℕ) (d : Pair) → i < pair_count k b → get_or (pairs_of k g) i d ≡ pair_at b (table_at k b + pair_length * i)
+  record_pair k i d h = rw (record_pairs k) (get_or_pairs_from b (table_at k b) (pair_count k b) i d h)
 
   -- a pair's places are places of names
-  pub pair-within : (k : Kind) (i : ℕ) → i < pairCount k b
-      → (number b (tableAt k b + pairLength * i) < nameCount b) × (number b (tableAt k b + pairLength * i + 2) < nameCount b)
-  pair-within k i h =
-      let ps = pairsAt (pairCount k b) (drop (tableAt k b) b) in
-      let u = ((pairsOk-true (nameCount b) ps).0 (kind_ok k)).0 in
-      let l = length-rowsAt pairLength (pairCount k b) (drop (tableAt k b) b) in
-      let m = getD-member (0, 0) ps i (omega arith) in
-      rw (getD-rowsAt pairLength (pairCount k b) (tableAt k b) b i h) at (under-pair (nameCount b) ps (get_or ps i (0, 0)) u m)
+  pub pair_within : (k : Kind) (i : ℕ) → i < pair_count k b
+      → (number b (table_at k b + pair_length * i) < name_count b) × (number b (table_at k b + pair_length * i + 2) < name_count b)
+  pair_within k i h =
+      let ps = pairs_at (pair_count k b) (drop (table_at k b) b) in
+      let u = ((pairs_ok_true (name_count b) ps).0 (kind_ok k)).0 in
+      let l = length_rows_at pair_length (pair_count k b) (drop (table_at k b) b) in
+      let m = get_or_member (0, 0) ps i (omega arith) in
+      rw (get_or_rows_at pair_length (pair_count k b) (table_at k b) b i h) at (under_pair (name_count b) ps (get_or ps i (0, 0)) u m)
     where
-      kind_ok : (k : Kind) → pairsOk (nameCount b) (pairsAt (pairCount k b) (drop (tableAt k b) b)) ≡ true
-      kind_ok Subgraph = (decode-held b g e).subgraph
-      kind_ok Translation = (decode-held b g e).translation
+      kind_ok : (k : Kind) → pairs_ok (name_count b) (pairs_at (pair_count k b) (drop (table_at k b) b)) ≡ true
+      kind_ok Subgraph = (decode_held b g e).subgraph
+      kind_ok Translation = (decode_held b g e).translation

@@ -1,9 +1,9 @@
 -- The empty record is all zeros.
 use mathlib.Core.Path.{◌≡◌, refl}
 use lib.ListN.{replicate}
-use Rattle.model.specs.Record.{empty, insertAll, names}
-use Rattle.model.specs.Layout.{recordLength, entries, pairPlaces, contents, encode}
+use Rattle.model.specs.Record.{empty, insert_all, names}
+use Rattle.model.specs.Layout.{record_length, entries, pair_places, contents, encode}
 
-pub encode-empty : encode empty ≡ replicate recordLength 0
-unfolding encode contents names insertAll entries pairPlaces
-encode-empty = refl
+pub encode_empty : encode empty ≡ replicate record_length 0
+unfolding encode contents names insert_all entries pair_places
+encode_empty = refl

@@ -4,29 +4,29 @@ use mathlib.Core.Bool.{true}
 use Prim.Native.Nat.{◌+◌, ◌≤◌}
 use lib.ListN.{length, drop}
 use borrow.Author.Tests.{leb-true, le-leb, eqb-true, eq-eqb}
-use Rattle.text.specs.Blocks.{allZero}
-use Rattle.model.specs.Bytes.{Bytes, compareBytes}
-use Rattle.model.specs.Record.{ascends, maxNames, maxPairs, maxBodiesBytes}
+use Rattle.text.specs.Blocks.{all_zero}
+use Rattle.model.specs.Bytes.{Bytes, compare_bytes}
+use Rattle.model.specs.Record.{ascends, max_names, max_pairs, max_bodies_bytes}
 use Rattle.text.proofs.Tests.{both_true}
-use Rattle.record.specs.Test.{bodyEnd, pairsOk, isUsed, every, entriesOf, subgraphOf, translationOf, namesOf, isRecord}
-use Rattle.model.specs.Layout.{nameCount, ownNumber, pairCount, recordLength, bodiesAt}
+use Rattle.record.specs.Test.{body_end, pairs_ok, is_used, every, entries_of, subgraph_of, translation_of, names_of, is_record}
+use Rattle.model.specs.Layout.{name_count, own_number, pair_count, record_length, bodies_at}
 use Rattle.model.specs.declared.Kind.TheVariants.{Subgraph, Translation}
 
 pub record Held (b : Bytes) : Type 0 where
-  pub long : length b ≡ recordLength
-  pub count : nameCount b ≤ maxNames
-  pub own : ownNumber b ≤ nameCount b
-  pub subgraphs : pairCount Subgraph b ≤ maxPairs
-  pub translations : pairCount Translation b ≤ maxPairs
-  pub row : bodyEnd 0 (entriesOf b) ≤ maxBodiesBytes
-  pub subgraph : pairsOk (nameCount b) (subgraphOf b) ≡ true
-  pub translation : pairsOk (nameCount b) (translationOf b) ≡ true
-  pub order : ascends compareBytes (namesOf b) ≡ true
-  pub used : every (isUsed (ownNumber b) (subgraphOf b) (translationOf b)) (nameCount b) ≡ true
-  pub rest : allZero (drop (bodiesAt b + bodyEnd 0 (entriesOf b)) b) ≡ true
+  pub long : length b ≡ record_length
+  pub count : name_count b ≤ max_names
+  pub own : own_number b ≤ name_count b
+  pub subgraphs : pair_count Subgraph b ≤ max_pairs
+  pub translations : pair_count Translation b ≤ max_pairs
+  pub row : body_end 0 (entries_of b) ≤ max_bodies_bytes
+  pub subgraph : pairs_ok (name_count b) (subgraph_of b) ≡ true
+  pub translation : pairs_ok (name_count b) (translation_of b) ≡ true
+  pub order : ascends compare_bytes (names_of b) ≡ true
+  pub used : every (is_used (own_number b) (subgraph_of b) (translation_of b)) (name_count b) ≡ true
+  pub rest : all_zero (drop (bodies_at b + body_end 0 (entries_of b)) b) ≡ true
 
-pub held : (b : Bytes) → isRecord b ≡ true → Held b
-unfolding isRecord
+pub held : (b : Bytes) → is_record b ≡ true → Held b
+unfolding is_record
 held b h =
     let (long, more) = both_true _ _ h in
     let (count, more) = both_true _ _ more in
@@ -52,16 +52,16 @@ held b h =
       rest = rest;
     }
 
-pub held-record : (b : Bytes) → Held b → isRecord b ≡ true
-unfolding isRecord
-held-record b h =
+pub held_record : (b : Bytes) → Held b → is_record b ≡ true
+unfolding is_record
+held_record b h =
     rw (
-      eq-eqb (length b) recordLength h.long,
-      le-leb (nameCount b) maxNames h.count,
-      le-leb (ownNumber b) (nameCount b) h.own,
-      le-leb (pairCount Subgraph b) maxPairs h.subgraphs,
-      le-leb (pairCount Translation b) maxPairs h.translations,
-      le-leb (bodyEnd 0 (entriesOf b)) maxBodiesBytes h.row,
+      eq-eqb (length b) record_length h.long,
+      le-leb (name_count b) max_names h.count,
+      le-leb (own_number b) (name_count b) h.own,
+      le-leb (pair_count Subgraph b) max_pairs h.subgraphs,
+      le-leb (pair_count Translation b) max_pairs h.translations,
+      le-leb (body_end 0 (entries_of b)) max_bodies_bytes h.row,
       h.subgraph,
       h.translation,
       h.order,

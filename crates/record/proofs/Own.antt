@@ -8,37 +8,37 @@ use native.Mathlib.Omega.{arith}
 use lib.Dec.{ltb}
 use borrow.Author.Tests.{lt-ltb}
 use Rattle.model.specs.Bytes.{Bytes}
-use Rattle.model.specs.Layout.{ownNumber, nameAt, ownAt, shown}
-use Rattle.model.specs.Opening.{isSome}
-use Rattle.model.specs.Outcome.{nameOr}
+use Rattle.model.specs.Layout.{own_number, name_at, own_at, shown}
+use Rattle.model.specs.Opening.{is_some}
+use Rattle.model.specs.Outcome.{name_or}
 
-module _ (b : Bytes) (own : ℕ) (e : own ≡ ownNumber b) where
-  pub own-none : own ≡ 0 → (shown b).name ≡ none
+module _ (b : Bytes) (own : ℕ) (e : own ≡ own_number b) where
+  pub own_none : own ≡ 0 → (shown b).name ≡ none
   unfolding shown
-  own-none z = ap (ownAt b) (sym e ∙ z)
+  own_none z = ap (own_at b) (sym e ∙ z)
 
-  pub own-some : own ≢ 0 → (shown b).name ≡ some (nameAt b (own - 1))
+  pub own_some : own ≢ 0 → (shown b).name ≡ some (name_at b (own - 1))
   unfolding shown
-  own-some n = ap (ownAt b) (sym e) ∙ go own n
+  own_some n = ap (own_at b) (sym e) ∙ go own n
     where
-      go : (i : ℕ) → i ≢ 0 → ownAt b i ≡ some (nameAt b (i - 1))
+      go : (i : ℕ) → i ≢ 0 → own_at b i ≡ some (name_at b (i - 1))
       go zero n = absurd (n refl)
       go (suc i) n = let d : suc i - 1 ≡ i = omega arith in rw d
 
   -- whether it is there
-  pub own-there : ltb 0 own ≡ isSome (shown b).name
+  pub own_there : ltb 0 own ≡ is_some (shown b).name
   unfolding shown
-  own-there = go own ∙ ap (λ (i : ℕ). isSome (ownAt b i)) e
+  own_there = go own ∙ ap (λ (i : ℕ). is_some (own_at b i)) e
     where
-      go : (i : ℕ) → ltb 0 i ≡ isSome (ownAt b i)
+      go : (i : ℕ) → ltb 0 i ≡ is_some (own_at b i)
       go zero = refl
       go (suc i) = lt-ltb 0 (suc i) (omega arith)
 
 -- a name that is there, and one that is not
-pub named : (o : Option Bytes) → isSome o ≡ true → o ≡ some (nameOr o)
+pub named : (o : Option Bytes) → is_some o ≡ true → o ≡ some (name_or o)
 named none e = let k : ◌≡◌ {A = ℕ} 0 1 = cc in absurd (omega arith)
 named (some n) e = refl
 
-pub unnamed : (o : Option Bytes) → isSome o ≡ false → o ≡ none
+pub unnamed : (o : Option Bytes) → is_some o ≡ false → o ≡ none
 unnamed none e = refl
 unnamed (some n) e = let k : ◌≡◌ {A = ℕ} 0 1 = cc in absurd (omega arith)

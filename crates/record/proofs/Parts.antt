@@ -11,90 +11,90 @@ use Rattle.model.specs.declared.Kind.TheVariants.{Subgraph, Translation}
 use Rattle.model.specs.Bytes.{Bytes}
 use Rattle.model.specs.Numbers.{number}
 use Rattle.model.specs.Record.{Pair, GraphName, names, bodies}
-use Rattle.model.specs.Layout.{bodyOf, countsLength, entryLength, pairLength, bodyLength, bodyStart, nameCount, ownNumber, ownAt, decode, bodiesAt, pairCount, tableAt}
-use Rattle.model.specs.Questions.{Part, PairParts, partOf, mapped, pairParts, pairsOf}
-use Rattle.record.specs.Test.{entriesOf}
-use Rattle.record.proofs.Words.{getD-rowsAt}
+use Rattle.model.specs.Layout.{body_of, counts_length, entry_length, pair_length, body_length, body_start, name_count, own_number, own_at, decode, bodies_at, pair_count, table_at}
+use Rattle.model.specs.Questions.{Part, PairParts, part_of, mapped, pair_parts, pairs_of}
+use Rattle.record.specs.Test.{entries_of}
+use Rattle.record.proofs.Words.{get_or_rows_at}
 use Rattle.record.specs.Coded.{spans}
 use Rattle.record.proofs.Entries.{cut_holds}
-use Rattle.record.proofs.Places.{place-of-name}
-use Rattle.record.proofs.Names.{names-ascending}
-use Rattle.record.proofs.Laws.{decode-held}
-use Rattle.record.proofs.Access.{record-names, record-count, record-name, record-own, record-pairCount, record-pair, pair-within}
+use Rattle.record.proofs.Places.{place_of_name}
+use Rattle.record.proofs.Names.{names_ascending}
+use Rattle.record.proofs.Laws.{decode_held}
+use Rattle.record.proofs.Access.{record_names, record_count, record_name, record_own, record_pair_count, record_pair, pair_within}
 
 -- ------------------------------------------------------------------ places
 
-getElem-in : {A : Type 0} (xs : List A) (i : ℕ) (d : A) → i < length xs → get_elem? xs i ≡ some (get_or xs i d)
-getElem-in [] i d h = absurd (omega arith)
-getElem-in (x ∷ xs) zero d h = refl
-getElem-in (x ∷ xs) (suc i) d h = getElem-in xs i d (omega arith)
+get_elem_in : {A : Type 0} (xs : List A) (i : ℕ) (d : A) → i < length xs → get_elem? xs i ≡ some (get_or xs i d)
+get_elem_in [] i d h = absurd (omega arith)
+get_elem_in (x ∷ xs) zero d h = refl
+get_elem_in (x ∷ xs) (suc i) d h = get_elem_in xs i d (omega arith)
 
-getElem-out : {A : Type 0} (xs : List A) (i : ℕ) → length xs ≤ i → get_elem? xs i ≡ none
-getElem-out [] zero h = refl
-getElem-out [] (suc i) h = refl
-getElem-out (x ∷ xs) zero h = absurd (omega arith)
-getElem-out (x ∷ xs) (suc i) h = getElem-out xs i (omega arith)
+get_elem_out : {A : Type 0} (xs : List A) (i : ℕ) → length xs ≤ i → get_elem? xs i ≡ none
+get_elem_out [] zero h = refl
+get_elem_out [] (suc i) h = refl
+get_elem_out (x ∷ xs) zero h = absurd (omega arith)
+get_elem_out (x ∷ xs) (suc i) h = get_elem_out xs i (omega arith)
 
-getD-spans : (start : ℕ) (ns : List Bytes) (i : ℕ) → i < length ns → get_or (spans start ns) i (0, 0) ≡ (start + length (bodies (take i ns)), length (get_or ns i []))
+get_or_spans : (start : ℕ) (ns : List Bytes) (i : ℕ) → i < length ns → get_or (spans start ns) i (0, 0) ≡ (start + length (bodies (take i ns)), length (get_or ns i []))
 unfolding spans
-getD-spans start [] i h = absurd (omega arith)
-getD-spans start (n ∷ ns) zero h = rw add-zero
-getD-spans start (n ∷ ns) (suc i) h =
-    getD-spans (start + length n) ns i (omega arith) ∙ rw (length-append n (bodies (take i ns)), add_assoc)
+get_or_spans start [] i h = absurd (omega arith)
+get_or_spans start (n ∷ ns) zero h = rw add-zero
+get_or_spans start (n ∷ ns) (suc i) h =
+    get_or_spans (start + length n) ns i (omega arith) ∙ rw (length-append n (bodies (take i ns)), add_assoc)
 
 -- where a part begins and how long it is, by the entry at place i
-abbrev pub entryPart : Bytes → ℕ → Part
-entryPart b i = record { start = bodiesAt b + bodyStart b i; size = bodyLength b i }
+abbrev pub entry_part : Bytes → ℕ → Part
+entry_part b i = record { start = bodies_at b + body_start b i; size = body_length b i }
 
-abbrev pub entryParts : Bytes → ℕ → ℕ → PairParts
-entryParts b i j = record { from = entryPart b i; to = entryPart b j }
+abbrev pub entry_parts : Bytes → ℕ → ℕ → PairParts
+entry_parts b i j = record { from = entry_part b i; to = entry_part b j }
 
 module _ (b : Bytes) (g : GraphName) (e : decode b ≡ some g) where
-  entry_at : (i : ℕ) → i < nameCount b
-      → (bodyStart b i ≡ length (bodies (take i (names g)))) × (bodyLength b i ≡ length (get_or (names g) i []))
+  entry_at : (i : ℕ) → i < name_count b
+      → (body_start b i ≡ length (bodies (take i (names g)))) × (body_length b i ≡ length (get_or (names g) i []))
   entry_at i k =
-      let h = decode-held b g e in
-      let es = (cut_holds (entriesOf b) 0 (drop (bodiesAt b) b) h.row (rw length-drop (omega arith))).entries in
+      let h = decode_held b g e in
+      let es = (cut_holds (entries_of b) 0 (drop (bodies_at b) b) h.row (rw length-drop (omega arith))).entries in
       let p =
-      sym (getD-rowsAt entryLength (nameCount b) countsLength b i k)
-      ∙ ap (λ (l : List (ℕ × ℕ)). get_or l i (0, 0)) (sym es ∙ ap (spans 0) (sym (record-names b g e)))
-      ∙ getD-spans 0 (names g) i (rw (record-count b g e) k) in
+      sym (get_or_rows_at entry_length (name_count b) counts_length b i k)
+      ∙ ap (λ (l : List (ℕ × ℕ)). get_or l i (0, 0)) (sym es ∙ ap (spans 0) (sym (record_names b g e)))
+      ∙ get_or_spans 0 (names g) i (rw (record_count b g e) k) in
       (ap (λ (q : ℕ × ℕ). q.0) p ∙ zero-add _, ap (λ (q : ℕ × ℕ). q.1) p)
 
-  pub part_at : (i : ℕ) → i < nameCount b → partOf g (get_or (names g) i []) ≡ entryPart b i
-  unfolding partOf bodyOf
+  pub part_at : (i : ℕ) → i < name_count b → part_of g (get_or (names g) i []) ≡ entry_part b i
+  unfolding part_of body_of
   part_at i k =
-      let l : i < length (names g) = rw (record-count b g e) k in
+      let l : i < length (names g) = rw (record_count b g e) k in
       let entry = entry_at i k in
-      rw (place-of-name (names g) i (names-ascending g) l, record-count b g e, record-pairCount b g e Subgraph, record-pairCount b g e Translation, entry.0, entry.1)
+      rw (place_of_name (names g) i (names_ascending g) l, record_count b g e, record_pair_count b g e Subgraph, record_pair_count b g e Translation, entry.0, entry.1)
 
-  pub name_in : (i : ℕ) → i < nameCount b → mapped (partOf g) (get_elem? (names g) i) ≡ some (entryPart b i)
-  name_in i k = rw (getElem-in (names g) i [] (rw (record-count b g e) k), part_at i k)
+  pub name_in_lem : (i : ℕ) → i < name_count b → mapped (part_of g) (get_elem? (names g) i) ≡ some (entry_part b i)
+  name_in_lem i k = rw (get_elem_in (names g) i [] (rw (record_count b g e) k), part_at i k)
 
-  pub name_out : (i : ℕ) → nameCount b ≤ i → mapped (partOf g) (get_elem? (names g) i) ≡ none
-  name_out i k = rw (getElem-out (names g) i (rw (record-count b g e) k))
+  pub name_out : (i : ℕ) → name_count b ≤ i → mapped (part_of g) (get_elem? (names g) i) ≡ none
+  name_out i k = rw (get_elem_out (names g) i (rw (record_count b g e) k))
 
-  pub own_in : (i : ℕ) → ownNumber b ≡ suc i → mapped (partOf g) g.name ≡ some (entryPart b i)
-  own_in i k =
-      let l : i < nameCount b = omega (arith, (decode-held b g e).own) in
-      ap (mapped (partOf g)) (record-own b g e ∙ ap (ownAt b) k) ∙ ap some (ap (partOf g) (sym (record-name b g e i l)) ∙ part_at i l)
+  pub own_in_lem : (i : ℕ) → own_number b ≡ suc i → mapped (part_of g) g.name ≡ some (entry_part b i)
+  own_in_lem i k =
+      let l : i < name_count b = omega (arith, (decode_held b g e).own) in
+      ap (mapped (part_of g)) (record_own b g e ∙ ap (own_at b) k) ∙ ap some (ap (part_of g) (sym (record_name b g e i l)) ∙ part_at i l)
 
-  pub own_out : ownNumber b ≡ 0 → g.name ≡ none
-  own_out k = rw (record-own b g e, k)
+  pub own_out : own_number b ≡ 0 → g.name ≡ none
+  own_out k = rw (record_own b g e, k)
 
-  pub pair-in : (k : Kind) (i : ℕ) → i < pairCount k b
-      → mapped (pairParts g) (get_elem? (pairsOf k g) i) ≡ some (entryParts b (number b (tableAt k b + pairLength * i)) (number b (tableAt k b + pairLength * i + 2)))
-  pair-in k i h =
+  pub pair_in : (k : Kind) (i : ℕ) → i < pair_count k b
+      → mapped (pair_parts g) (get_elem? (pairs_of k g) i) ≡ some (entry_parts b (number b (table_at k b + pair_length * i)) (number b (table_at k b + pair_length * i + 2)))
+  pair_in k i h =
       let d : Pair = record { from = []; to = [] } in
-      let w = pair-within b g e k i h in
+      let w = pair_within b g e k i h in
       rw (
-        getElem-in (pairsOf k g) i d (rw (record-pairCount b g e k) h),
-        record-pair b g e k i d h,
-        ← record-name b g e (number b (tableAt k b + pairLength * i)) w.0,
-        ← record-name b g e (number b (tableAt k b + pairLength * i + 2)) w.1,
-        part_at (number b (tableAt k b + pairLength * i)) w.0,
-        part_at (number b (tableAt k b + pairLength * i + 2)) w.1,
+        get_elem_in (pairs_of k g) i d (rw (record_pair_count b g e k) h),
+        record_pair b g e k i d h,
+        ← record_name b g e (number b (table_at k b + pair_length * i)) w.0,
+        ← record_name b g e (number b (table_at k b + pair_length * i + 2)) w.1,
+        part_at (number b (table_at k b + pair_length * i)) w.0,
+        part_at (number b (table_at k b + pair_length * i + 2)) w.1,
       )
 
-  pub pair-out : (k : Kind) (i : ℕ) → pairCount k b ≤ i → get_elem? (pairsOf k g) i ≡ none
-  pair-out k i h = getElem-out (pairsOf k g) i (rw (record-pairCount b g e k) h)
+  pub pair_out : (k : Kind) (i : ℕ) → pair_count k b ≤ i → get_elem? (pairs_of k g) i ≡ none
+  pair_out k i h = get_elem_out (pairs_of k g) i (rw (record_pair_count b g e k) h)

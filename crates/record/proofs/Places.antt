@@ -8,76 +8,76 @@ use Prim.Native.Nat.{ℕ, zero, suc, ◌<◌}
 use native.Mathlib.Omega.{arith}
 use lib.ListN.{length}
 use Rattle.model.specs.declared.Order.{Order}
-use Rattle.model.specs.Bytes.{Bytes, thenBy, compareNumbers, compareBytes, sameBytes}
-use Rattle.model.specs.Record.{Pair, comparePairs, ascends, pairNames}
+use Rattle.model.specs.Bytes.{Bytes, then_by, compare_numbers, compare_bytes, same_bytes}
+use Rattle.model.specs.Record.{Pair, compare_pairs, ascends, pair_names}
 use Rattle.model.specs.Statements.{Ascending}
-use Rattle.model.specs.Layout.{placeOf, pairPlaces}
-use Rattle.text.proofs.Order.{bytes-order, sameBytes-refl, sameBytes-true, sameBytes-false}
-use Rattle.text.proofs.Ascending.{ascending-tail, ascending-below, less-irrefl}
-use Rattle.text.proofs.Places.{getD-member, ascends-map, ascending-places}
+use Rattle.model.specs.Layout.{place_of, pair_places}
+use Rattle.text.proofs.Order.{bytes_order, same_bytes_refl, same_bytes_true, same_bytes_false}
+use Rattle.text.proofs.Ascending.{ascending_tail, ascending_below, less_irrefl}
+use Rattle.text.proofs.Places.{get_or_member, ascends_map, ascending_places}
 use Rattle.record.specs.Test.{Under}
-use Rattle.record.specs.Coded.{nameIn, pairIn, lePairs}
+use Rattle.record.specs.Coded.{name_in, pair_in, le_pairs}
 
-abbrev pub placesIn : List Bytes → Pair → ℕ × ℕ
-placesIn ns p = (placeOf p.from ns, placeOf p.to ns)
+abbrev pub places_in : List Bytes → Pair → ℕ × ℕ
+places_in ns p = (place_of p.from ns, place_of p.to ns)
 
 -- the places of pairs, one after the other
 unfoldable pub flat : List (ℕ × ℕ) → List ℕ
 flat [] = []
 flat (p ∷ ps) = p.0 ∷ p.1 ∷ flat ps
 
-unfoldable pub comparePlaces : ℕ × ℕ → ℕ × ℕ → Order
-comparePlaces p q = thenBy (compareNumbers p.0 q.0) (compareNumbers p.1 q.1)
+unfoldable pub compare_places : ℕ × ℕ → ℕ × ℕ → Order
+compare_places p q = then_by (compare_numbers p.0 q.0) (compare_numbers p.1 q.1)
 
 -- ------------------------------------------------------------------ a name's place
 
-pub place_found : (x : Bytes) (ns : List Bytes) → Memᴰ x ns → (placeOf x ns < length ns) × (nameIn ns (placeOf x ns) ≡ x)
-unfolding placeOf
+pub place_found : (x : Bytes) (ns : List Bytes) → Memᴰ x ns → (place_of x ns < length ns) × (name_in ns (place_of x ns) ≡ x)
+unfolding place_of
 place_found x [] m = absurd (Memᴰ.not-nil m)
-place_found x (n ∷ ns) m = go (sameBytes x n) refl (Memᴰ.cases_cons m) (place_found x ns)
+place_found x (n ∷ ns) m = go (same_bytes x n) refl (Memᴰ.cases_cons m) (place_found x ns)
   where
-    go : (t : Bool) → sameBytes x n ≡ t → (x ≡ n) ⊎ Memᴰ x ns
-        → (Memᴰ x ns → (placeOf x ns < length ns) × (nameIn ns (placeOf x ns) ≡ x))
-        → (cond t 0 (suc (placeOf x ns)) < length (n ∷ ns)) × (nameIn (n ∷ ns) (cond t 0 (suc (placeOf x ns))) ≡ x)
-    go true e m rest = (omega arith, sym ((sameBytes-true x n).0 e))
-    go false e (inl d) rest = absurd (false≢true (sym e ∙ (sameBytes-true x n).1 d))
+    go : (t : Bool) → same_bytes x n ≡ t → (x ≡ n) ⊎ Memᴰ x ns
+        → (Memᴰ x ns → (place_of x ns < length ns) × (name_in ns (place_of x ns) ≡ x))
+        → (cond t 0 (suc (place_of x ns)) < length (n ∷ ns)) × (name_in (n ∷ ns) (cond t 0 (suc (place_of x ns))) ≡ x)
+    go true e m rest = (omega arith, sym ((same_bytes_true x n).0 e))
+    go false e (inl d) rest = absurd (false≢true (sym e ∙ (same_bytes_true x n).1 d))
     go false e (inr m) rest = let r = rest m in (omega arith, r.1)
 
-pub place-of-name : (ns : List Bytes) (i : ℕ) → Ascending compareBytes ns → i < length ns → placeOf (nameIn ns i) ns ≡ i
-unfolding placeOf
-place-of-name [] i a h = absurd (omega arith)
-place-of-name (n ∷ ns) zero a h = rw (sameBytes-refl n)
-place-of-name (n ∷ ns) (suc i) a h =
-    let less = ascending-below bytes-order n ns a (nameIn ns i) (getD-member [] ns i (omega arith)) in
+pub place_of_name : (ns : List Bytes) (i : ℕ) → Ascending compare_bytes ns → i < length ns → place_of (name_in ns i) ns ≡ i
+unfolding place_of
+place_of_name [] i a h = absurd (omega arith)
+place_of_name (n ∷ ns) zero a h = rw (same_bytes_refl n)
+place_of_name (n ∷ ns) (suc i) a h =
+    let less = ascending_below bytes_order n ns a (name_in ns i) (get_or_member [] ns i (omega arith)) in
     rw (
-      sameBytes-false (nameIn ns i) n (λ e. less-irrefl bytes-order n (rw e at less)),
-      place-of-name ns i (ascending-tail compareBytes n ns a) (omega arith),
+      same_bytes_false (name_in ns i) n (λ e. less_irrefl bytes_order n (rw e at less)),
+      place_of_name ns i (ascending_tail compare_bytes n ns a) (omega arith),
     )
 
 -- ------------------------------------------------------------------ pairs
 
-pub lePairs-places : (ns : List Bytes) (ps : List Pair) → lePairs (map (placesIn ns) ps) ≡ pairPlaces ns ps
-unfolding lePairs pairPlaces
-lePairs-places ns [] = refl
-lePairs-places ns (p ∷ ps) = rw (lePairs-places ns ps)
+pub le_pairs_places : (ns : List Bytes) (ps : List Pair) → le_pairs (map (places_in ns) ps) ≡ pair_places ns ps
+unfolding le_pairs pair_places
+le_pairs_places ns [] = refl
+le_pairs_places ns (p ∷ ps) = rw (le_pairs_places ns ps)
 
-pub pairNames-in : (ns : List Bytes) (ps : List (ℕ × ℕ)) → pairNames (map (pairIn ns) ps) ≡ map (nameIn ns) (flat ps)
+pub pair_names_in : (ns : List Bytes) (ps : List (ℕ × ℕ)) → pair_names (map (pair_in ns) ps) ≡ map (name_in ns) (flat ps)
 unfolding flat
-pairNames-in ns [] = refl
-pairNames-in ns (p ∷ ps) = rw (pairNames-in ns ps)
+pair_names_in ns [] = refl
+pair_names_in ns (p ∷ ps) = rw (pair_names_in ns ps)
 
-pub flat-places : (ns : List Bytes) (ps : List Pair) → flat (map (placesIn ns) ps) ≡ map (λ x. placeOf x ns) (pairNames ps)
+pub flat_places : (ns : List Bytes) (ps : List Pair) → flat (map (places_in ns) ps) ≡ map (λ x. place_of x ns) (pair_names ps)
 unfolding flat
-flat-places ns [] = refl
-flat-places ns (p ∷ ps) = rw (flat-places ns ps)
+flat_places ns [] = refl
+flat_places ns (p ∷ ps) = rw (flat_places ns ps)
 
-pub under-member : (n : ℕ) (ps : List (ℕ × ℕ)) (i : ℕ) → Under n ps → Memᴰ i (flat ps) → i < n
+pub under_member : (n : ℕ) (ps : List (ℕ × ℕ)) (i : ℕ) → Under n ps → Memᴰ i (flat ps) → i < n
 unfolding Under flat
-under-member n [] i u m = absurd (Memᴰ.not-nil m)
-under-member n (p ∷ ps) i u m =
+under_member n [] i u m = absurd (Memᴰ.not-nil m)
+under_member n (p ∷ ps) i u m =
     ⊎_elim (λ (e : i ≡ p.0). omega arith)
     (λ (k : Memᴰ i (p.1 ∷ flat ps)).
-    ⊎_elim (λ (e : i ≡ p.1). omega arith) (under-member n ps i u.2) (Memᴰ.cases_cons k))
+    ⊎_elim (λ (e : i ≡ p.1). omega arith) (under_member n ps i u.2) (Memᴰ.cases_cons k))
     (Memᴰ.cases_cons m)
 
 pub under_all : (n : ℕ) (ps : List (ℕ × ℕ)) → ((i : ℕ) → Memᴰ i (flat ps) → i < n) → Under n ps
@@ -89,34 +89,34 @@ under_all n (p ∷ ps) h = (
   under_all n ps (λ i m. h i (Memᴰ.tail (Memᴰ.tail m))),
 )
 
-pub under-pair : (n : ℕ) (ps : List (ℕ × ℕ)) (p : ℕ × ℕ) → Under n ps → Memᴰ p ps → (p.0 < n) × (p.1 < n)
+pub under_pair : (n : ℕ) (ps : List (ℕ × ℕ)) (p : ℕ × ℕ) → Under n ps → Memᴰ p ps → (p.0 < n) × (p.1 < n)
 unfolding Under
-under-pair n [] p u m = absurd (Memᴰ.not-nil m)
-under-pair n (q ∷ qs) p u m =
-    ⊎_elim (λ (e : p ≡ q). rw e (u.0, u.1)) (under-pair n qs p u.2) (Memᴰ.cases_cons m)
+under_pair n [] p u m = absurd (Memᴰ.not-nil m)
+under_pair n (q ∷ qs) p u m =
+    ⊎_elim (λ (e : p ≡ q). rw e (u.0, u.1)) (under_pair n qs p u.2) (Memᴰ.cases_cons m)
 
 -- pairs of places are ordered as the pairs of names
-pub ascends-in : (ns : List Bytes) (ps : List (ℕ × ℕ)) → Ascending compareBytes ns → Under (length ns) ps
-    → ascends comparePairs (map (pairIn ns) ps) ≡ ascends comparePlaces ps
-unfolding comparePairs comparePlaces
-ascends-in ns ps a u =
-    ascends-map comparePlaces comparePairs (pairIn ns) ps
+pub ascends_in : (ns : List Bytes) (ps : List (ℕ × ℕ)) → Ascending compare_bytes ns → Under (length ns) ps
+    → ascends compare_pairs (map (pair_in ns) ps) ≡ ascends compare_places ps
+unfolding compare_pairs compare_places
+ascends_in ns ps a u =
+    ascends_map compare_places compare_pairs (pair_in ns) ps
     (λ p q m k.
-    let s = under-pair (length ns) ps p u m in
-    let t = under-pair (length ns) ps q u k in
-    rw (ascending-places bytes-order [] ns p.0 q.0 a s.0 t.0, ascending-places bytes-order [] ns p.1 q.1 a s.1 t.1))
+    let s = under_pair (length ns) ps p u m in
+    let t = under_pair (length ns) ps q u k in
+    rw (ascending_places bytes_order [] ns p.0 q.0 a s.0 t.0, ascending_places bytes_order [] ns p.1 q.1 a s.1 t.1))
 
-pub places-in : (ns : List Bytes) (ps : List (ℕ × ℕ)) → Ascending compareBytes ns → Under (length ns) ps → map (placesIn ns) (map (pairIn ns) ps) ≡ ps
+pub places_in_lem : (ns : List Bytes) (ps : List (ℕ × ℕ)) → Ascending compare_bytes ns → Under (length ns) ps → map (places_in ns) (map (pair_in ns) ps) ≡ ps
 unfolding Under
-places-in ns [] a u = refl
-places-in ns (p ∷ ps) a u = rw (place-of-name ns p.0 a u.0, place-of-name ns p.1 a u.1, places-in ns ps a u.2)
+places_in_lem ns [] a u = refl
+places_in_lem ns (p ∷ ps) a u = rw (place_of_name ns p.0 a u.0, place_of_name ns p.1 a u.1, places_in_lem ns ps a u.2)
 
-pub in-places : (ns : List Bytes) (ps : List Pair) → ((x : Bytes) → Memᴰ x (pairNames ps) → Memᴰ x ns)
-    → map (pairIn ns) (map (placesIn ns) ps) ≡ ps
-in-places ns [] h = refl
-in-places ns (p ∷ ps) h =
+pub in_places : (ns : List Bytes) (ps : List Pair) → ((x : Bytes) → Memᴰ x (pair_names ps) → Memᴰ x ns)
+    → map (pair_in ns) (map (places_in ns) ps) ≡ ps
+in_places ns [] h = refl
+in_places ns (p ∷ ps) h =
     rw (
       (place_found p.from ns (h p.from (Memᴰ.head refl))).1,
       (place_found p.to ns (h p.to (Memᴰ.tail (Memᴰ.head refl)))).1,
-      in-places ns ps (λ x m. h x (Memᴰ.tail (Memᴰ.tail m))),
+      in_places ns ps (λ x m. h x (Memᴰ.tail (Memᴰ.tail m))),
     )

@@ -6,16 +6,16 @@ use Prim.Native.Nat.{ℕ, ◌+◌, ◌≤◌, ◌<◌}
 use native.Mathlib.Omega.{arith}
 use lib.ListN.{length, drop}
 use borrow.Author.Tests.{le-leb, leb-true}
-use Rattle.model.specs.Record.{maxNames, maxPairs, maxBodiesBytes}
-use Rattle.text.specs.Blocks.{allZero}
+use Rattle.model.specs.Record.{max_names, max_pairs, max_bodies_bytes}
+use Rattle.text.specs.Blocks.{all_zero}
 use Rattle.model.specs.Bytes.{Bytes}
 use Rattle.text.proofs.Tests.{both_true, same_tests}
-use Rattle.record.specs.Test.{entriesAt, pairsAt, Under, bodyEnd, pairsOk, countsOk, tablesOk, isRecord}
-use Rattle.record.proofs.TestLaws.{pairsOk-true}
+use Rattle.record.specs.Test.{entries_at, pairs_at, Under, body_end, pairs_ok, counts_ok, tables_ok, is_record}
+use Rattle.record.proofs.TestLaws.{pairs_ok_true}
 use Rattle.record.specs.Reader.{IsHead}
 use Rattle.record.specs.declared.layout.Head.{Head}
-use Rattle.record.proofs.Held.{held, held-record}
-use Rattle.model.specs.Layout.{bodiesAfter, countsLength, nameCount, ownNumber, pairCount, recordLength}
+use Rattle.record.proofs.Held.{held, held_record}
+use Rattle.model.specs.Layout.{bodies_after, counts_length, name_count, own_number, pair_count, record_length}
 use Rattle.model.specs.declared.Kind.TheVariants.{Subgraph, Translation}
 
 pub not_so : (t : Bool) → (t ≡ true → ⊥) → t ≡ false
@@ -26,23 +26,23 @@ pub clash : (t : Bool) → t ≡ true → t ≡ false → ⊥
 clash t p q = let z : ◌≡◌ {A = ℕ} 0 1 = cc in omega arith
 
 pub record Counted (n o s t : ℕ) : Type 0 where
-  pub names : n ≤ maxNames
+  pub names : n ≤ max_names
   pub own : o ≤ n
-  pub subgraphs : s ≤ maxPairs
-  pub translations : t ≤ maxPairs
+  pub subgraphs : s ≤ max_pairs
+  pub translations : t ≤ max_pairs
 
-pub counted : (n own s t : ℕ) → countsOk n own s t ≡ true → Counted n own s t
+pub counted : (n own s t : ℕ) → counts_ok n own s t ≡ true → Counted n own s t
 counted n own s t e =
     let p = both_true _ _ e in
     let q = both_true _ _ p.1 in
     let r = both_true _ _ q.1 in
     record { names = leb-true _ _ p.0; own = leb-true _ _ q.0; subgraphs = leb-true _ _ r.0; translations = leb-true _ _ r.1 }
 
-pub pairs-under : (n : ℕ) (b : Bytes) (left p : ℕ) → pairsOk n (pairsAt left (drop p b)) ≡ true → Under n (pairsAt left (drop p b))
-pairs-under n b left p e = ((pairsOk-true n (pairsAt left (drop p b))).0 e).0
+pub pairs_under : (n : ℕ) (b : Bytes) (left p : ℕ) → pairs_ok n (pairs_at left (drop p b)) ≡ true → Under n (pairs_at left (drop p b))
+pairs_under n b left p e = ((pairs_ok_true n (pairs_at left (drop p b))).0 e).0
 
-pub refuse-length : (b : Bytes) → (length b ≡ recordLength → ⊥) → isRecord b ≡ false
-refuse-length b f = not_so (isRecord b) (λ r. f (held b r).long)
+pub refuse_length : (b : Bytes) → (length b ≡ record_length → ⊥) → is_record b ≡ false
+refuse_length b f = not_so (is_record b) (λ r. f (held b r).long)
 
 module _ (b : Bytes) (h : Head) (k : IsHead b h) where
   abbrev n : ℕ
@@ -57,44 +57,44 @@ module _ (b : Bytes) (h : Head) (k : IsHead b h) where
   abbrev t : ℕ
   t = h.translation
 
-  abbrev en : n ≡ nameCount b
+  abbrev en : n ≡ name_count b
   en = k.names.0
 
-  abbrev eo : own ≡ ownNumber b
+  abbrev eo : own ≡ own_number b
   eo = k.own.0
 
-  abbrev es : s ≡ pairCount Subgraph b
+  abbrev es : s ≡ pair_count Subgraph b
   es = k.subgraph.0
 
-  abbrev et : t ≡ pairCount Translation b
+  abbrev et : t ≡ pair_count Translation b
   et = k.translation.0
 
-  pub refuse-counts : countsOk n own s t ≡ false → isRecord b ≡ false
-  refuse-counts e = not_so (isRecord b) λ r.
+  pub refuse_counts : counts_ok n own s t ≡ false → is_record b ≡ false
+  refuse_counts e = not_so (is_record b) λ r.
       let d = held b r in
-      clash (countsOk n own s t)
+      clash (counts_ok n own s t)
       (rw (en, eo, es, et, le-leb _ _ d.count, le-leb _ _ d.own, le-leb _ _ d.subgraphs, le-leb _ _ d.translations)) e
 
-  pub refuse-bodies : maxBodiesBytes < bodyEnd 0 (entriesAt n (drop countsLength b)) → isRecord b ≡ false
-  refuse-bodies long = not_so (isRecord b) λ r.
-      let l : bodyEnd 0 (entriesAt n (drop countsLength b)) ≤ maxBodiesBytes = rw en (held b r).row in
+  pub refuse_bodies : max_bodies_bytes < body_end 0 (entries_at n (drop counts_length b)) → is_record b ≡ false
+  refuse_bodies long = not_so (is_record b) λ r.
+      let l : body_end 0 (entries_at n (drop counts_length b)) ≤ max_bodies_bytes = rw en (held b r).row in
       omega arith
 
-  pub refuse-tables : tablesOk b n own s t ≡ false → isRecord b ≡ false
-  unfolding tablesOk
-  refuse-tables e = not_so (isRecord b) λ r.
+  pub refuse_tables : tables_ok b n own s t ≡ false → is_record b ≡ false
+  unfolding tables_ok
+  refuse_tables e = not_so (is_record b) λ r.
       let d = held b r in
       clash _ (rw (en, eo, es, et, d.subgraph, d.translation, d.order) d.used) e
 
-  pub zeros-decide : length b ≡ recordLength → countsOk n own s t ≡ true → bodyEnd 0 (entriesAt n (drop countsLength b)) ≤ maxBodiesBytes → tablesOk b n own s t ≡ true
-      → allZero (drop (bodiesAfter n (s + t) + bodyEnd 0 (entriesAt n (drop countsLength b))) b) ≡ isRecord b
-  unfolding tablesOk
-  zeros-decide l c r w =
+  pub zeros_decide : length b ≡ record_length → counts_ok n own s t ≡ true → body_end 0 (entries_at n (drop counts_length b)) ≤ max_bodies_bytes → tables_ok b n own s t ≡ true
+      → all_zero (drop (bodies_after n (s + t) + body_end 0 (entries_at n (drop counts_length b))) b) ≡ is_record b
+  unfolding tables_ok
+  zeros_decide l c r w =
       let m = counted n own s t c in
       let p = both_true _ _ w in
       let q = both_true _ _ p.1 in
       let u = both_true _ _ q.1 in
-      same_tests _ (isRecord b) (λ z. held-record b (record {
+      same_tests _ (is_record b) (λ z. held_record b (record {
         long = l;
         count = rw (← en) m.names;
         own = rw (← eo, ← en) m.own;

@@ -8,140 +8,140 @@ use lib.Seq.{drop-drop, drop_at}
 use Rattle.model.specs.Bytes.{Bytes}
 use Rattle.model.specs.Numbers.{le16, number}
 use Rattle.model.specs.Record.{GraphName, names, bodies}
-use Rattle.model.specs.Layout.{countsLength, entryLength, pairLength, entryAt, bodiesAfter, nameCount, ownNumber, pairCount, recordLength, entries, pairPlaces, ownPlace, contents, encode, bodiesAt}
-use Rattle.record.specs.Test.{entriesOf, subgraphOf, translationOf, namesOf, Under}
-use Rattle.record.proofs.Words.{length-lePairs, pairs-read}
-use Rattle.record.proofs.Written.{length-entries}
-use Rattle.record.proofs.Entries.{entries-read}
-use Rattle.record.proofs.Places.{placesIn, lePairs-places}
-use Rattle.record.specs.Coded.{Coded, lePairs, countsOf, spans, meaning}
+use Rattle.model.specs.Layout.{counts_length, entry_length, pair_length, entry_at, bodies_after, name_count, own_number, pair_count, record_length, entries, pair_places, own_place, contents, encode, bodies_at}
+use Rattle.record.specs.Test.{entries_of, subgraph_of, translation_of, names_of, Under}
+use Rattle.record.proofs.Words.{length_le_pairs, pairs_read}
+use Rattle.record.proofs.Written.{length_entries}
+use Rattle.record.proofs.Entries.{entries_read}
+use Rattle.record.proofs.Places.{places_in, le_pairs_places}
+use Rattle.record.specs.Coded.{Coded, le_pairs, counts_of, spans, meaning}
 use Rattle.record.proofs.Coded.{coded}
 use Rattle.model.specs.declared.Kind.TheVariants.{Subgraph, Translation}
 
 -- a buffer of given parts
 unfoldable pub parts : ℕ → List Bytes → List (ℕ × ℕ) → List (ℕ × ℕ) → Bytes → Bytes
-parts o ns S T X = countsOf (length ns) o (length S) (length T) ++ (entries 0 ns ++ (lePairs S ++ (lePairs T ++ X)))
+parts o ns S T X = counts_of (length ns) o (length S) (length T) ++ (entries 0 ns ++ (le_pairs S ++ (le_pairs T ++ X)))
 
 -- how many bytes are in use
 abbrev pub size : Coded → ℕ
-size c = bodiesAfter (length c.names) (length c.subgraph + length c.translation) + length (bodies c.names)
+size c = bodies_after (length c.names) (length c.subgraph + length c.translation) + length (bodies c.names)
 
 -- the bytes of c, with X in the place of the bodies
-abbrev pub partsOf : Coded → Bytes → Bytes
-partsOf c X = parts c.own c.names c.subgraph c.translation X
+abbrev pub parts_of : Coded → Bytes → Bytes
+parts_of c X = parts c.own c.names c.subgraph c.translation X
 
 abbrev pub ending : Coded → Bytes
-ending c = replicate (recordLength - size c) 0
+ending c = replicate (record_length - size c) 0
 
 unfoldable pub write : Coded → Bytes
-write c = partsOf c (bodies c.names ++ ending c)
+write c = parts_of c (bodies c.names ++ ending c)
 
 abbrev pub read : Bytes → Coded
-read b = record { names = namesOf b; own = ownNumber b; subgraph = subgraphOf b; translation = translationOf b }
+read b = record { names = names_of b; own = own_number b; subgraph = subgraph_of b; translation = translation_of b }
 
-pub length-parts : (o : ℕ) (ns : List Bytes) (S T : List (ℕ × ℕ)) (X : Bytes) → length (parts o ns S T X) ≡ bodiesAfter (length ns) (length S + length T) + length X
+pub length_parts : (o : ℕ) (ns : List Bytes) (S T : List (ℕ × ℕ)) (X : Bytes) → length (parts o ns S T X) ≡ bodies_after (length ns) (length S + length T) + length X
 unfolding parts
-length-parts o ns S T X = simp (length-append, length-entries, length-lePairs) (omega arith)
+length_parts o ns S T X = simp (length-append, length_entries, length_le_pairs) (omega arith)
 
 -- ------------------------------------------------------------------ the encoding is these bytes
 
 regroup : (a b c d e f h k : Bytes) → a ++ b ++ c ++ d ++ e ++ f ++ h ++ k ≡ (a ++ (b ++ (c ++ d))) ++ (e ++ (f ++ (h ++ k)))
 regroup a b c d e f h k = simp append_assoc
 
-contents-parts : (g : GraphName) → contents g ≡ partsOf (coded g) (bodies (names g))
+contents_parts : (g : GraphName) → contents g ≡ parts_of (coded g) (bodies (names g))
 unfolding contents parts
-contents-parts g =
+contents_parts g =
     let ns = names g in
-    regroup (le16 (length ns)) (le16 (ownPlace ns g.name)) (le16 (length g.subgraph)) (le16 (length g.translation))
-    (entries 0 ns) (pairPlaces ns g.subgraph) (pairPlaces ns g.translation) (bodies ns)
+    regroup (le16 (length ns)) (le16 (own_place ns g.name)) (le16 (length g.subgraph)) (le16 (length g.translation))
+    (entries 0 ns) (pair_places ns g.subgraph) (pair_places ns g.translation) (bodies ns)
     ∙ rw (
-      length-map g.subgraph (placesIn ns),
-      length-map g.translation (placesIn ns),
-      lePairs-places ns g.subgraph,
-      lePairs-places ns g.translation,
+      length-map g.subgraph (places_in ns),
+      length-map g.translation (places_in ns),
+      le_pairs_places ns g.subgraph,
+      le_pairs_places ns g.translation,
     )
 
-parts-append : (o : ℕ) (ns : List Bytes) (S T : List (ℕ × ℕ)) (X Y : Bytes) → parts o ns S T X ++ Y ≡ parts o ns S T (X ++ Y)
+parts_append : (o : ℕ) (ns : List Bytes) (S T : List (ℕ × ℕ)) (X Y : Bytes) → parts o ns S T X ++ Y ≡ parts o ns S T (X ++ Y)
 unfolding parts
-parts-append o ns S T X Y = simp append_assoc
+parts_append o ns S T X Y = simp append_assoc
 
-pub encode-write : (g : GraphName) → encode g ≡ write (coded g)
+pub encode_write : (g : GraphName) → encode g ≡ write (coded g)
 unfolding encode write
-encode-write g =
+encode_write g =
     let c = coded g in
-    rw (contents-parts g, length-parts c.own c.names c.subgraph c.translation (bodies c.names))
-    (parts-append c.own c.names c.subgraph c.translation (bodies c.names) (ending c))
+    rw (contents_parts g, length_parts c.own c.names c.subgraph c.translation (bodies c.names))
+    (parts_append c.own c.names c.subgraph c.translation (bodies c.names) (ending c))
 
 -- the parts of c one behind the other, and zeros, are the encoding of what c means
-pub parts-encode : (c : Coded) (u : ℕ) → coded (meaning c) ≡ c → u ≡ size c
-    → countsOf (length c.names) c.own (length c.subgraph) (length c.translation)
-    ++ (entries 0 c.names ++ (lePairs c.subgraph ++ (lePairs c.translation ++ (bodies c.names ++ replicate (recordLength - u) 0))))
+pub parts_encode : (c : Coded) (u : ℕ) → coded (meaning c) ≡ c → u ≡ size c
+    → counts_of (length c.names) c.own (length c.subgraph) (length c.translation)
+    ++ (entries 0 c.names ++ (le_pairs c.subgraph ++ (le_pairs c.translation ++ (bodies c.names ++ replicate (record_length - u) 0))))
     ≡ encode (meaning c)
 unfolding write parts
-parts-encode c u e d = rw d refl ∙ sym (encode-write (meaning c) ∙ ap write e)
+parts_encode c u e d = rw d refl ∙ sym (encode_write (meaning c) ∙ ap write e)
 
 -- ------------------------------------------------------------------ the parts of a buffer
 
 -- what is read at each place of b
 pub record Parts (b : Bytes) (o : ℕ) (ns : List Bytes) (S T : List (ℕ × ℕ)) (X : Bytes) : Type 0 where
-  pub count : nameCount b ≡ length ns
-  pub own : ownNumber b ≡ o
-  pub subgraphs : pairCount Subgraph b ≡ length S
-  pub translations : pairCount Translation b ≡ length T
-  pub entries : entriesOf b ≡ spans 0 ns
-  pub subgraph : subgraphOf b ≡ S
-  pub translation : translationOf b ≡ T
-  pub rest : drop (bodiesAt b) b ≡ X
+  pub count : name_count b ≡ length ns
+  pub own : own_number b ≡ o
+  pub subgraphs : pair_count Subgraph b ≡ length S
+  pub translations : pair_count Translation b ≡ length T
+  pub entries : entries_of b ≡ spans 0 ns
+  pub subgraph : subgraph_of b ≡ S
+  pub translation : translation_of b ≡ T
+  pub rest : drop (bodies_at b) b ≡ X
 
 module _ (o : ℕ) (ns : List Bytes) (S T : List (ℕ × ℕ)) (X : Bytes) (few : length ns < 65536) (own : o < 65536) (subgraphs : length S < 65536) (translations : length T < 65536) where
-  count-parts : number (parts o ns S T X) 0 ≡ length ns
+  count_parts : number (parts o ns S T X) 0 ≡ length ns
   unfolding parts
-  count-parts = omega arith
+  count_parts = omega arith
 
-  own-parts : number (parts o ns S T X) 2 ≡ o
+  own_parts : number (parts o ns S T X) 2 ≡ o
   unfolding parts
-  own-parts = omega arith
+  own_parts = omega arith
 
-  subgraphs-parts : number (parts o ns S T X) 4 ≡ length S
+  subgraphs_parts : number (parts o ns S T X) 4 ≡ length S
   unfolding parts
-  subgraphs-parts = omega arith
+  subgraphs_parts = omega arith
 
-  translations-parts : number (parts o ns S T X) 6 ≡ length T
+  translations_parts : number (parts o ns S T X) 6 ≡ length T
   unfolding parts
-  translations-parts = omega arith
+  translations_parts = omega arith
 
-  drop_head : drop countsLength (parts o ns S T X) ≡ entries 0 ns ++ (lePairs S ++ (lePairs T ++ X))
+  drop_head : drop counts_length (parts o ns S T X) ≡ entries 0 ns ++ (le_pairs S ++ (le_pairs T ++ X))
   drop_head = unfold parts in refl
 
-  drop-entries : drop (entryAt (length ns)) (parts o ns S T X) ≡ lePairs S ++ (lePairs T ++ X)
-  drop-entries =
+  drop_entries : drop (entry_at (length ns)) (parts o ns S T X) ≡ le_pairs S ++ (le_pairs T ++ X)
+  drop_entries =
       rw (
-        ← drop-drop (entryLength * length ns) countsLength,
+        ← drop-drop (entry_length * length ns) counts_length,
         drop_head,
-        drop_at (entries 0 ns) (lePairs S ++ (lePairs T ++ X)) (entryLength * length ns) (length-entries 0 ns),
+        drop_at (entries 0 ns) (le_pairs S ++ (le_pairs T ++ X)) (entry_length * length ns) (length_entries 0 ns),
       )
 
-  drop-subgraph : drop (entryAt (length ns) + pairLength * length S) (parts o ns S T X) ≡ lePairs T ++ X
-  drop-subgraph =
+  drop_subgraph : drop (entry_at (length ns) + pair_length * length S) (parts o ns S T X) ≡ le_pairs T ++ X
+  drop_subgraph =
       rw (
-        ← drop-drop (pairLength * length S) (entryAt (length ns)),
-        drop-entries,
-        drop_at (lePairs S) (lePairs T ++ X) (pairLength * length S) (length-lePairs S),
+        ← drop-drop (pair_length * length S) (entry_at (length ns)),
+        drop_entries,
+        drop_at (le_pairs S) (le_pairs T ++ X) (pair_length * length S) (length_le_pairs S),
       )
 
-  drop-translation : drop (bodiesAfter (length ns) (length S + length T)) (parts o ns S T X) ≡ X
-  drop-translation =
-      let e : bodiesAfter (length ns) (length S + length T) ≡ entryAt (length ns) + pairLength * length S + pairLength * length T = omega arith in
-      rw (e, ← drop-drop (pairLength * length T) (entryAt (length ns) + pairLength * length S), drop-subgraph, drop_at (lePairs T) X (pairLength * length T) (length-lePairs T))
+  drop_translation : drop (bodies_after (length ns) (length S + length T)) (parts o ns S T X) ≡ X
+  drop_translation =
+      let e : bodies_after (length ns) (length S + length T) ≡ entry_at (length ns) + pair_length * length S + pair_length * length T = omega arith in
+      rw (e, ← drop-drop (pair_length * length T) (entry_at (length ns) + pair_length * length S), drop_subgraph, drop_at (le_pairs T) X (pair_length * length T) (length_le_pairs T))
 
-  pub parts-read : Under 65536 (spans 0 ns) → Under 65536 S → Under 65536 T → Parts (parts o ns S T X) o ns S T X
-  parts-read u v w = record {
-    count = count-parts;
-    own = own-parts;
-    subgraphs = subgraphs-parts;
-    translations = translations-parts;
-    entries = rw (count-parts, drop_head) (entries-read 0 ns (lePairs S ++ (lePairs T ++ X)) u);
-    subgraph = rw (count-parts, subgraphs-parts, drop-entries) (pairs-read S (lePairs T ++ X) v);
-    translation = rw (count-parts, subgraphs-parts, translations-parts, drop-subgraph) (pairs-read T X w);
-    rest = rw (count-parts, subgraphs-parts, translations-parts, drop-translation);
+  pub parts_read : Under 65536 (spans 0 ns) → Under 65536 S → Under 65536 T → Parts (parts o ns S T X) o ns S T X
+  parts_read u v w = record {
+    count = count_parts;
+    own = own_parts;
+    subgraphs = subgraphs_parts;
+    translations = translations_parts;
+    entries = rw (count_parts, drop_head) (entries_read 0 ns (le_pairs S ++ (le_pairs T ++ X)) u);
+    subgraph = rw (count_parts, subgraphs_parts, drop_entries) (pairs_read S (le_pairs T ++ X) v);
+    translation = rw (count_parts, subgraphs_parts, translations_parts, drop_subgraph) (pairs_read T X w);
+    rest = rw (count_parts, subgraphs_parts, translations_parts, drop_translation);
   }

@@ -12,35 +12,35 @@ pub record Coded : Type 0 where
   pub subgraph : List (ℕ × ℕ)
   pub translation : List (ℕ × ℕ)
 
-abbrev pub nameIn : List Bytes → ℕ → Bytes
-nameIn ns i = get_or ns i []
+abbrev pub name_in : List Bytes → ℕ → Bytes
+name_in ns i = get_or ns i []
 
-abbrev pub pairIn : List Bytes → ℕ × ℕ → Pair
-pairIn ns p = record { from = nameIn ns p.0; to = nameIn ns p.1 }
+abbrev pub pair_in : List Bytes → ℕ × ℕ → Pair
+pair_in ns p = record { from = name_in ns p.0; to = name_in ns p.1 }
 
-abbrev pub ownIn : List Bytes → ℕ → Option Bytes
-ownIn ns zero = none
-ownIn ns (suc i) = some (nameIn ns i)
+abbrev pub own_in : List Bytes → ℕ → Option Bytes
+own_in ns zero = none
+own_in ns (suc i) = some (name_in ns i)
 
 abbrev pub meaning : Coded → GraphName
 meaning c = record {
-  name = ownIn c.names c.own;
-  subgraph = map (pairIn c.names) c.subgraph;
-  translation = map (pairIn c.names) c.translation;
+  name = own_in c.names c.own;
+  subgraph = map (pair_in c.names) c.subgraph;
+  translation = map (pair_in c.names) c.translation;
 }
 
 -- the bytes of a list of pairs
-unfoldable pub lePairs : List (ℕ × ℕ) → Bytes
-lePairs [] = []
-lePairs (p ∷ ps) = le16 p.0 ++ (le16 p.1 ++ lePairs ps)
+unfoldable pub le_pairs : List (ℕ × ℕ) → Bytes
+le_pairs [] = []
+le_pairs (p ∷ ps) = le16 p.0 ++ (le16 p.1 ++ le_pairs ps)
 
 -- the bytes of the four counts
-abbrev pub countsOf : ℕ → ℕ → ℕ → ℕ → Bytes
-countsOf names own subgraph translation = le16 names ++ (le16 own ++ (le16 subgraph ++ le16 translation))
+abbrev pub counts_of : ℕ → ℕ → ℕ → ℕ → Bytes
+counts_of names own subgraph translation = le16 names ++ (le16 own ++ (le16 subgraph ++ le16 translation))
 
 -- the bytes of a name's entry
-abbrev pub entryOf : ℕ → Bytes → Bytes
-entryOf start name = le16 start ++ le16 (length name)
+abbrev pub entry_of : ℕ → Bytes → Bytes
+entry_of start name = le16 start ++ le16 (length name)
 
 -- start and length of each name as numbers, the first at `start`
 unfoldable pub spans : ℕ → List Bytes → List (ℕ × ℕ)

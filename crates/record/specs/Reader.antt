@@ -2,7 +2,7 @@
 use Rattle.std.specs.Prelude.{◌≡◌, ℕ, ◌+◌, ◌≤◌, ◌<◌, length}
 use Rattle.model.specs.declared.Kind.TheVariants.{Subgraph, Translation}
 use Rattle.model.specs.Bytes.{Bytes}
-use Rattle.model.specs.Layout.{countsLength, nameCount, ownNumber, pairCount, bodyStart, bodyLength, bodiesAt}
+use Rattle.model.specs.Layout.{counts_length, name_count, own_number, pair_count, body_start, body_length, bodies_at}
 use Rattle.record.specs.declared.layout.Head.{Head}
 use Rattle.record.specs.declared.layout.Part.{Part}
 use Rattle.record.specs.declared.reader.Reader.{Reader}
@@ -13,19 +13,19 @@ IsCount m n = (n ≡ m) × (n < 65536)
 
 -- a reader's buffer has room for the counts, and its counts are the buffer's
 pub record Opened (r : Reader) : Type 0 where
-  pub room : countsLength ≤ length r.bytes.now
-  pub names : IsCount (nameCount r.bytes.now) r.names
-  pub own : IsCount (ownNumber r.bytes.now) r.own
-  pub subgraph : IsCount (pairCount Subgraph r.bytes.now) r.subgraph
-  pub translation : IsCount (pairCount Translation r.bytes.now) r.translation
+  pub room : counts_length ≤ length r.bytes.now
+  pub names : IsCount (name_count r.bytes.now) r.names
+  pub own : IsCount (own_number r.bytes.now) r.own
+  pub subgraph : IsCount (pair_count Subgraph r.bytes.now) r.subgraph
+  pub translation : IsCount (pair_count Translation r.bytes.now) r.translation
 
 -- h has the four counts of b
 pub record IsHead (b : Bytes) (h : Head) : Type 0 where
-  pub names : IsCount (nameCount b) h.names
-  pub own : IsCount (ownNumber b) h.own
-  pub subgraph : IsCount (pairCount Subgraph b) h.subgraph
-  pub translation : IsCount (pairCount Translation b) h.translation
+  pub names : IsCount (name_count b) h.names
+  pub own : IsCount (own_number b) h.own
+  pub subgraph : IsCount (pair_count Subgraph b) h.subgraph
+  pub translation : IsCount (pair_count Translation b) h.translation
 
 -- p is where the body of the name at place i stands
 abbrev pub IsPart : Bytes → ℕ → Part → Type 0
-IsPart b i p = (p.start ≡ bodiesAt b + bodyStart b i) × (p.size ≡ bodyLength b i)
+IsPart b i p = (p.start ≡ bodies_at b + body_start b i) × (p.size ≡ body_length b i)

@@ -2,9 +2,9 @@
 // within the slice; the counts come from the record's reader.
 ghost use Rattle.std.specs.Prelude.{◌≡◌, ◌+◌, ◌*◌, ◌≤◌, ◌<◌, length};
 ghost use Rattle.model.specs.declared.Kind.TheVariants.{Subgraph, Translation};
-ghost use Rattle.model.specs.Layout.{countsLength, entryLength, pairLength, entryAt, nameCount, ownNumber, pairCount, bodyStart, bodyLength, tableAt, bodiesAt, fromPlace, toPlace, nameAt, shown};
-ghost use Rattle.model.specs.Opening.{isSome};
-ghost use Rattle.model.specs.Outcome.{nameOr};
+ghost use Rattle.model.specs.Layout.{counts_length, entry_length, pair_length, entry_at, name_count, own_number, pair_count, body_start, body_length, table_at, bodies_at, from_place, to_place, name_at, shown};
+ghost use Rattle.model.specs.Opening.{is_some};
+ghost use Rattle.model.specs.Outcome.{name_or};
 ghost use Rattle.record.specs.Reader.{IsCount, IsPart};
 
 use crate::offsets::{PAIR_LENGTH, bodies_after, entry_at};
@@ -31,23 +31,23 @@ pub struct Part {
 
 // Where the body at place i begins, counted from the first body.
 pub fn body_start(b: &[u8], i: usize) -> usize
-    requires { entryAt i + entryLength ≤ length b.now }
-    ensures { (result ≡ bodyStart b.now i) × (result < 65536) }
+    requires { entry_at i + entry_length ≤ length b.now }
+    ensures { (result ≡ body_start b.now i) × (result < 65536) }
 {
     read16(b, entry_at(i))
 }
 
 // How long the body at place i is.
 pub fn body_length(b: &[u8], i: usize) -> usize
-    requires { entryAt i + entryLength ≤ length b.now }
-    ensures { (result ≡ bodyLength b.now i) × (result < 65536) }
+    requires { entry_at i + entry_length ≤ length b.now }
+    ensures { (result ≡ body_length b.now i) × (result < 65536) }
 {
     read16(b, entry_at(i) + 2)
 }
 
 // Where the body of the name at place i stands, in a buffer with these numbers of names and pairs.
 pub fn part_of(b: &[u8], names: usize, subgraph: usize, translation: usize, i: usize) -> Part
-    requires { IsCount (nameCount b.now) names × IsCount (pairCount Subgraph b.now) subgraph × IsCount (pairCount Translation b.now) translation × (entryAt i + entryLength ≤ length b.now) }
+    requires { IsCount (name_count b.now) names × IsCount (pair_count Subgraph b.now) subgraph × IsCount (pair_count Translation b.now) translation × (entry_at i + entry_length ≤ length b.now) }
     ensures { IsPart b.now i result }
 {
     let bodies = bodies_after(names, subgraph + translation);
@@ -58,8 +58,8 @@ pub fn part_of(b: &[u8], names: usize, subgraph: usize, translation: usize, i: u
 
 // Where the bodies of the names begin.
 pub fn bodies_at(b: &[u8]) -> usize
-    requires { countsLength ≤ length b.now }
-    ensures { (result ≡ bodiesAt b.now) × (result < 4294967296) }
+    requires { counts_length ≤ length b.now }
+    ensures { (result ≡ bodies_at b.now) × (result < 4294967296) }
 {
     let h = head_at(b);
     bodies_after(h.names, h.subgraph + h.translation)
@@ -67,24 +67,24 @@ pub fn bodies_at(b: &[u8]) -> usize
 
 // How many names there are.
 pub fn name_count(b: &[u8]) -> usize
-    requires { countsLength ≤ length b.now }
-    ensures { (result ≡ nameCount b.now) × (result < 65536) }
+    requires { counts_length ≤ length b.now }
+    ensures { (result ≡ name_count b.now) × (result < 65536) }
 {
     head_at(b).names
 }
 
 // The own name's place, counted from 1, or 0 for none.
 pub fn own_place(b: &[u8]) -> usize
-    requires { countsLength ≤ length b.now }
-    ensures { (result ≡ ownNumber b.now) × (result < 65536) }
+    requires { counts_length ≤ length b.now }
+    ensures { (result ≡ own_number b.now) × (result < 65536) }
 {
     head_at(b).own
 }
 
 // The name at place i, with the bodies from byte `bodies` on.
 pub fn name_in(b: &[u8], bodies: usize, i: usize) -> &[u8]
-    requires { (bodies ≡ bodiesAt b.now) × (bodies < 4294967296) × (entryAt i + entryLength ≤ length b.now) }
-    ensures { result.now ≡ nameAt b.now i }
+    requires { (bodies ≡ bodies_at b.now) × (bodies < 4294967296) × (entry_at i + entry_length ≤ length b.now) }
+    ensures { result.now ≡ name_at b.now i }
 {
     let start = bodies + body_start(b, i);
     let size = body_length(b, i);
@@ -93,8 +93,8 @@ pub fn name_in(b: &[u8], bodies: usize, i: usize) -> &[u8]
 
 // The name at place i.
 pub fn name_at(b: &[u8], i: usize) -> &[u8]
-    requires { entryAt i + entryLength ≤ length b.now }
-    ensures { result.now ≡ nameAt b.now i }
+    requires { entry_at i + entry_length ≤ length b.now }
+    ensures { result.now ≡ name_at b.now i }
 {
     let p = part_at(b, i);
     let start = p.start;
@@ -104,16 +104,16 @@ pub fn name_at(b: &[u8], i: usize) -> &[u8]
 
 // Whether there is an own name.
 pub fn has_name(b: &[u8]) -> bool
-    requires { countsLength ≤ length b.now }
-    ensures { result ≡ isSome (shown b.now).name }
+    requires { counts_length ≤ length b.now }
+    ensures { result ≡ is_some (shown b.now).name }
 {
     0 < own_place(b)
 }
 
 // The own name; empty where there is none.
 pub fn own_name(b: &[u8]) -> &[u8]
-    requires { entryAt (ownNumber b.now) ≤ length b.now }
-    ensures { result.now ≡ nameOr (shown b.now).name }
+    requires { entry_at (own_number b.now) ≤ length b.now }
+    ensures { result.now ≡ name_or (shown b.now).name }
 {
     let own = own_place(b);
     if own == 0 {
@@ -124,8 +124,8 @@ pub fn own_name(b: &[u8]) -> &[u8]
 
 // How many pairs of a kind there are.
 pub fn pair_count(b: &[u8], kind: Kind) -> usize
-    requires { countsLength ≤ length b.now }
-    ensures { (result ≡ pairCount kind b.now) × (result < 65536) }
+    requires { counts_length ≤ length b.now }
+    ensures { (result ≡ pair_count kind b.now) × (result < 65536) }
 {
     let h = head_at(b);
     match kind {
@@ -136,8 +136,8 @@ pub fn pair_count(b: &[u8], kind: Kind) -> usize
 
 // Where the pairs of a kind begin.
 pub fn table_at(b: &[u8], kind: Kind) -> usize
-    requires { countsLength ≤ length b.now }
-    ensures { (result ≡ tableAt kind b.now) × (result < 4294967296) }
+    requires { counts_length ≤ length b.now }
+    ensures { (result ≡ table_at kind b.now) × (result < 4294967296) }
 {
     let h = head_at(b);
     match kind {
@@ -148,24 +148,24 @@ pub fn table_at(b: &[u8], kind: Kind) -> usize
 
 // The byte at which the pair of a kind at place i stands.
 pub fn pair_at(b: &[u8], kind: Kind, i: usize) -> usize
-    requires { (countsLength ≤ length b.now) × (i < 65536) }
-    ensures { result ≡ tableAt kind b.now + pairLength * i }
+    requires { (counts_length ≤ length b.now) × (i < 65536) }
+    ensures { result ≡ table_at kind b.now + pair_length * i }
 {
     table_at(b, kind) + PAIR_LENGTH * i
 }
 
 // The place of the first name of the pair that stands at byte `at`.
 pub fn pair_from(b: &[u8], at: usize) -> usize
-    requires { at + pairLength ≤ length b.now }
-    ensures { (result ≡ fromPlace b.now at) × (result < 65536) }
+    requires { at + pair_length ≤ length b.now }
+    ensures { (result ≡ from_place b.now at) × (result < 65536) }
 {
     read16(b, at)
 }
 
 // The place of its second name.
 pub fn pair_to(b: &[u8], at: usize) -> usize
-    requires { at + pairLength ≤ length b.now }
-    ensures { (result ≡ toPlace b.now at) × (result < 65536) }
+    requires { at + pair_length ≤ length b.now }
+    ensures { (result ≡ to_place b.now at) × (result < 65536) }
 {
     read16(b, at + 2)
 }

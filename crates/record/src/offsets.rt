@@ -1,7 +1,7 @@
 // The sizes and offsets of a record, as `model/specs/Record.antt` and `Layout.antt` have them: no other file of the libraries
 // knows these numbers.
 ghost use Rattle.std.specs.Prelude.{◌≡◌, ◌+◌, ◌*◌, ◌<◌, length};
-ghost use Rattle.model.specs.Layout.{recordLength, entryAt, bodiesAfter};
+ghost use Rattle.model.specs.Layout.{record_length, entry_at, bodies_after};
 
 // Every record buffer has this length.
 pub const RECORD_LENGTH: usize = 32768;
@@ -29,15 +29,15 @@ pub const MAX_BODIES_BYTES: usize = 22520;
 
 // A buffer that holds the empty record: all zeros.
 pub fn empty_record() -> [u8; RECORD_LENGTH]
-    ensures { length result ≡ recordLength }
+    ensures { length result ≡ record_length }
 {
     [0; RECORD_LENGTH]
 }
 
 // Where entry i begins; the pairs begin where the entry after the last would.
 pub fn entry_at(i: usize) -> usize
-    requires { entryAt i < 18446744073709551616 }
-    ensures { result ≡ entryAt i }
+    requires { entry_at i < 18446744073709551616 }
+    ensures { result ≡ entry_at i }
 {
     COUNTS_LENGTH + ENTRY_LENGTH * i
 }
@@ -45,7 +45,7 @@ pub fn entry_at(i: usize) -> usize
 // Where the bodies begin, after n entries and k pairs of both kinds together.
 pub fn bodies_after(n: usize, k: usize) -> usize
     requires { (n < 1048576) × (k < 1048576) }
-    ensures { result ≡ bodiesAfter n k }
+    ensures { result ≡ bodies_after n k }
 {
     entry_at(n) + PAIR_LENGTH * k
 }

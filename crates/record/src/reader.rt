@@ -1,7 +1,7 @@
 // A record's reader: a buffer with its four counts. A function over it takes it apart and calls one on the slice and the numbers, or gives
 // the numbers; every other function takes a plain buffer, and has the counts from `head_at`, which opens the reader once.
 ghost use Rattle.std.specs.Prelude.{◌≡◌, ◌+◌, ◌≤◌, length};
-ghost use Rattle.model.specs.Layout.{countsLength, entryLength, entryAt};
+ghost use Rattle.model.specs.Layout.{counts_length, entry_length, entry_at};
 ghost use Rattle.record.specs.Reader.{Opened, IsHead, IsPart};
 
 use crate::layout::{Head, Part, part_of};
@@ -20,7 +20,7 @@ pub struct Reader<'a> {
 
 // A buffer with its counts.
 pub fn open<'a>(b: &'a [u8]) -> Reader<'a>
-    requires { countsLength ≤ length b.now }
+    requires { counts_length ≤ length b.now }
     ensures { (result.bytes ≡ b.entry) × Opened result }
 {
     Reader {
@@ -47,7 +47,7 @@ pub fn head<'a>(r: Reader<'a>) -> Head
 
 // Where the body of the name at place i stands.
 pub fn part<'a>(r: Reader<'a>, i: usize) -> Part
-    requires { Opened r × (entryAt i + entryLength ≤ length r.bytes.now) }
+    requires { Opened r × (entry_at i + entry_length ≤ length r.bytes.now) }
     ensures { IsPart r.entry.bytes.now i result }
 {
     part_of(r.bytes, r.names, r.subgraph, r.translation, i)
@@ -55,7 +55,7 @@ pub fn part<'a>(r: Reader<'a>, i: usize) -> Part
 
 // The counts of a plain buffer.
 pub fn head_at(b: &[u8]) -> Head
-    requires { countsLength ≤ length b.now }
+    requires { counts_length ≤ length b.now }
     ensures { IsHead b.now result }
 {
     head(open(b))
@@ -63,7 +63,7 @@ pub fn head_at(b: &[u8]) -> Head
 
 // Where the body of the name at place i of a plain buffer stands.
 pub fn part_at(b: &[u8], i: usize) -> Part
-    requires { entryAt i + entryLength ≤ length b.now }
+    requires { entry_at i + entry_length ≤ length b.now }
     ensures { IsPart b.now i result }
 {
     part(open(b), i)

@@ -1,9 +1,9 @@
 // The test of a buffer: whether it is a record, part by part.
 ghost use Rattle.std.specs.Prelude.{◌≡◌, true, ◌+◌, ◌*◌, ◌≤◌, ◌<◌, length, drop, replicate};
-ghost use Rattle.model.specs.Bytes.{compareBytes};
-ghost use Rattle.model.specs.Record.{ascends, maxNames};
-ghost use Rattle.model.specs.Layout.{recordLength, countsLength, pairLength, entryAt};
-ghost use Rattle.record.specs.Test.{entriesAt, pairsAt, Under, bodyEnd, cut, isLess, pairLess, pairOk, pairsOk, isUsed, every, marks, markOwn, isOne};
+ghost use Rattle.model.specs.Bytes.{compare_bytes};
+ghost use Rattle.model.specs.Record.{ascends, max_names};
+ghost use Rattle.model.specs.Layout.{record_length, counts_length, pair_length, entry_at};
+ghost use Rattle.record.specs.Test.{entries_at, pairs_at, Under, body_end, cut, is_less, pair_less, pair_ok, pairs_ok, is_used, every, marks, mark_own, is_one};
 
 use crate::offsets::{
     COUNTS_LENGTH, ENTRY_LENGTH, MAX_NAME_BYTES, MAX_NAMES, PAIR_LENGTH, RECORD_LENGTH,
@@ -13,8 +13,8 @@ use text::read16;
 
 // Where the bodies of n names end, counted from the first, if the entries leave no gap and no name is long; else a record's length.
 pub(crate) fn body_end(b: &[u8], n: usize) -> usize
-    requires { (n ≤ maxNames) × (entryAt n ≤ length b.now) }
-    ensures { result ≡ bodyEnd 0 (entriesAt n (drop countsLength b.now)) }
+    requires { (n ≤ max_names) × (entry_at n ≤ length b.now) }
+    ensures { result ≡ body_end 0 (entries_at n (drop counts_length b.now)) }
 {
     let mut at = 0;
     let mut p = COUNTS_LENGTH;
@@ -37,7 +37,7 @@ pub(crate) fn body_end(b: &[u8], n: usize) -> usize
 
 // Whether the pair (a, b) comes before the pair (c, d).
 fn pair_less(a: usize, b: usize, c: usize, d: usize) -> bool
-    ensures { result ≡ pairLess a b c d }
+    ensures { result ≡ pair_less a b c d }
 {
     if a < c {
         return true;
@@ -50,8 +50,8 @@ fn pair_less(a: usize, b: usize, c: usize, d: usize) -> bool
 
 // Whether the first of the `left` pairs from `at` on is of places below n, and comes before the next.
 fn pair_ok(b: &[u8], at: usize, left: usize, n: usize) -> bool
-    requires { (0 < left) × (at + pairLength * left ≤ length b.now) }
-    ensures { result ≡ pairOk n (pairsAt left (drop at b.now)) }
+    requires { (0 < left) × (at + pair_length * left ≤ length b.now) }
+    ensures { result ≡ pair_ok n (pairs_at left (drop at b.now)) }
 {
     let x = read16(b, at);
     let y = read16(b, at + 2);
@@ -74,8 +74,8 @@ fn pair_ok(b: &[u8], at: usize, left: usize, n: usize) -> bool
 
 // Whether the `count` pairs from `at` on are of places below n, and ascend.
 pub(crate) fn pairs_ok(b: &[u8], at: usize, count: usize, n: usize) -> bool
-    requires { at + pairLength * count ≤ length b.now }
-    ensures { result ≡ pairsOk n (pairsAt count (drop at b.now)) }
+    requires { at + pair_length * count ≤ length b.now }
+    ensures { result ≡ pairs_ok n (pairs_at count (drop at b.now)) }
 {
     let mut p = at;
     let mut left = count;
@@ -91,7 +91,7 @@ pub(crate) fn pairs_ok(b: &[u8], at: usize, count: usize, n: usize) -> bool
 
 // Whether one byte string comes before another.
 fn is_less(a: &[u8], b: &[u8]) -> bool
-    ensures { result ≡ isLess (compareBytes a.now b.now) }
+    ensures { result ≡ is_less (compare_bytes a.now b.now) }
 {
     match text::compare(a, b) {
         Order::Less => true,
@@ -102,8 +102,8 @@ fn is_less(a: &[u8], b: &[u8]) -> bool
 
 // Whether the n names whose bodies start at `bodies` ascend.
 pub(crate) fn names_ascend(b: &[u8], n: usize, bodies: usize) -> bool
-    requires { (n ≤ maxNames) × (entryAt n ≤ length b.now) × (bodies ≤ recordLength) }
-    ensures { result ≡ ascends compareBytes (cut (entriesAt n (drop countsLength b.now)) (drop bodies b.now)) }
+    requires { (n ≤ max_names) × (entry_at n ≤ length b.now) × (bodies ≤ record_length) }
+    ensures { result ≡ ascends compare_bytes (cut (entries_at n (drop counts_length b.now)) (drop bodies b.now)) }
 {
     let mut p = COUNTS_LENGTH;
     let mut q = bodies;
@@ -123,8 +123,8 @@ pub(crate) fn names_ascend(b: &[u8], n: usize, bodies: usize) -> bool
 
 // Marks both places of each of the `count` pairs from `at` on.
 fn mark_pairs(used: &mut [u8], b: &[u8], at: usize, count: usize)
-    requires { (at + pairLength * count ≤ length b.now) × Under (length used.old) (pairsAt count (drop at b.now)) }
-    ensures { used.new ≡ marks (pairsAt count (drop at b.now)) used.old }
+    requires { (at + pair_length * count ≤ length b.now) × Under (length used.old) (pairs_at count (drop at b.now)) }
+    ensures { used.new ≡ marks (pairs_at count (drop at b.now)) used.old }
 {
     let mut p = at;
     let mut left = count;
@@ -141,7 +141,7 @@ fn mark_pairs(used: &mut [u8], b: &[u8], at: usize, count: usize)
 // Whether each of the first n bytes is 1.
 fn all_marked(used: &[u8], n: usize) -> bool
     requires { n ≤ length used.now }
-    ensures { result ≡ every (isOne used.now) n }
+    ensures { result ≡ every (is_one used.now) n }
 {
     let mut all = true;
     let mut i = 0;
@@ -154,7 +154,7 @@ fn all_marked(used: &[u8], n: usize) -> bool
 
 // No place marked, of the most there can be.
 fn no_marks() -> [u8; MAX_NAMES]
-    ensures { result ≡ replicate maxNames 0 }
+    ensures { result ≡ replicate max_names 0 }
 {
     [0; MAX_NAMES]
 }
@@ -162,7 +162,7 @@ fn no_marks() -> [u8; MAX_NAMES]
 // Marks the own place, if there is one.
 fn mark_own(used: &mut [u8], own: usize)
     requires { own ≤ length used.old }
-    ensures { used.new ≡ markOwn own used.old }
+    ensures { used.new ≡ mark_own own used.old }
 {
     if 0 < own {
         used[own - 1] = 1;
@@ -180,9 +180,9 @@ pub(crate) fn all_used(
     translation: usize,
     t: usize,
 ) -> bool
-    requires n_le_max_names { (n ≤ maxNames) × (own ≤ n) × (subgraph + pairLength * s ≤ length b.now) × (translation + pairLength * t ≤ length b.now) }
-    requires under { Under n (pairsAt s (drop subgraph b.now)) × Under n (pairsAt t (drop translation b.now)) }
-    ensures { result ≡ every (isUsed own (pairsAt s (drop subgraph b.now)) (pairsAt t (drop translation b.now))) n }
+    requires n_le_max_names { (n ≤ max_names) × (own ≤ n) × (subgraph + pair_length * s ≤ length b.now) × (translation + pair_length * t ≤ length b.now) }
+    requires under { Under n (pairs_at s (drop subgraph b.now)) × Under n (pairs_at t (drop translation b.now)) }
+    ensures { result ≡ every (is_used own (pairs_at s (drop subgraph b.now)) (pairs_at t (drop translation b.now))) n }
 {
     let mut space = no_marks();
     let used: &mut [u8] = &mut space;

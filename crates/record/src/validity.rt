@@ -1,9 +1,9 @@
 // Whether a buffer is a record, from the tests of its parts; and the number of what is wrong with it.
 ghost use Rattle.std.specs.Prelude.{◌≡◌, ◌+◌, ◌≤◌, length};
-ghost use Rattle.model.specs.Record.{maxNames, maxPairs};
-ghost use Rattle.model.specs.Layout.{bodiesAfter, decode};
-ghost use Rattle.model.specs.Opening.{isSome, faultOf, faultOfBoth};
-ghost use Rattle.record.specs.Test.{countsOk, tablesOk};
+ghost use Rattle.model.specs.Record.{max_names, max_pairs};
+ghost use Rattle.model.specs.Layout.{bodies_after, decode};
+ghost use Rattle.model.specs.Opening.{is_some, fault_of, fault_of_both};
+ghost use Rattle.record.specs.Test.{counts_ok, tables_ok};
 
 use crate::offsets::{
     COUNTS_LENGTH, ENTRY_LENGTH, MAX_BODIES_BYTES, MAX_NAMES, MAX_PAIRS, PAIR_LENGTH, RECORD_LENGTH,
@@ -13,8 +13,8 @@ use crate::test::{all_used, body_end, names_ascend, pairs_ok};
 
 // Whether the pairs of both kinds are right, the names ascend and all are used, in a buffer whose counts are within the sizes.
 fn tables_ok(b: &[u8], n: usize, own: usize, s: usize, t: usize) -> bool
-    requires { (n ≤ maxNames) × (own ≤ n) × (s ≤ maxPairs) × (t ≤ maxPairs) × (bodiesAfter n (s + t) ≤ length b.now) }
-    ensures { result ≡ tablesOk b.now n own s t }
+    requires { (n ≤ max_names) × (own ≤ n) × (s ≤ max_pairs) × (t ≤ max_pairs) × (bodies_after n (s + t) ≤ length b.now) }
+    ensures { result ≡ tables_ok b.now n own s t }
 {
     let subgraph = COUNTS_LENGTH + ENTRY_LENGTH * n;
     let translation = subgraph + PAIR_LENGTH * s;
@@ -33,7 +33,7 @@ fn tables_ok(b: &[u8], n: usize, own: usize, s: usize, t: usize) -> bool
 
 // Whether the four counts are within the sizes, and the own place within the names.
 fn counts_ok(n: usize, own: usize, s: usize, t: usize) -> bool
-    ensures { result ≡ countsOk n own s t }
+    ensures { result ≡ counts_ok n own s t }
 {
     if MAX_NAMES < n {
         return false;
@@ -49,7 +49,7 @@ fn counts_ok(n: usize, own: usize, s: usize, t: usize) -> bool
 
 // Whether a buffer is a record.
 pub fn is_record(b: &[u8]) -> bool
-    ensures { result ≡ isSome (decode b.now) }
+    ensures { result ≡ is_some (decode b.now) }
 {
     if b.len() != RECORD_LENGTH {
         return false;
@@ -76,7 +76,7 @@ pub fn is_record(b: &[u8]) -> bool
 // What is wrong with a buffer, as a number: 15 for its length, 16 for its contents, 0 for nothing.
 #[tactic(auto, using(crate::proofs::Opening::fault_tested))]
 pub fn fault(b: &[u8]) -> u32
-    ensures { result ≡ faultOf b.now }
+    ensures { result ≡ fault_of b.now }
 {
     if b.len() != RECORD_LENGTH {
         return 15;
@@ -87,7 +87,7 @@ pub fn fault(b: &[u8]) -> u32
 // What is wrong with one of two buffers, as a number: 15 for the length of either, then 16, or 0.
 #[tactic(auto, using(crate::proofs::Opening::faults_tested))]
 pub fn fault_of_both(b: &[u8], c: &[u8]) -> u32
-    ensures { result ≡ faultOfBoth b.now c.now }
+    ensures { result ≡ fault_of_both b.now c.now }
 {
     if b.len() != RECORD_LENGTH {
         return 15;

@@ -1,8 +1,8 @@
 // The parts of a record written: the counts, the entry of a name, a pair. `layout` has where they are read.
 ghost use Rattle.std.specs.Prelude.{◌≡◌, [], ◌∷◌, ◌+◌, ◌≤◌, length};
 ghost use Rattle.model.specs.Bytes.{put};
-ghost use Rattle.model.specs.Layout.{countsLength, entryLength, pairLength};
-ghost use Rattle.record.specs.Coded.{lePairs, countsOf, entryOf};
+ghost use Rattle.model.specs.Layout.{counts_length, entry_length, pair_length};
+ghost use Rattle.record.specs.Coded.{le_pairs, counts_of, entry_of};
 
 use text::write16;
 
@@ -14,8 +14,8 @@ pub fn write_counts(
     subgraph: usize,
     translation: usize,
 ) -> usize
-    requires { countsLength ≤ length buffer.old }
-    ensures { (result ≡ countsLength) × (buffer.new ≡ put buffer.old 0 (countsOf names own subgraph translation)) }
+    requires { counts_length ≤ length buffer.old }
+    ensures { (result ≡ counts_length) × (buffer.new ≡ put buffer.old 0 (counts_of names own subgraph translation)) }
 {
     let a = write16(buffer, 0, names);
     let b = write16(buffer, a, own);
@@ -25,8 +25,8 @@ pub fn write_counts(
 
 // Writes the entry of a name whose body begins at `start`, counted from the first body, and gives the place behind it.
 pub fn write_entry(buffer: &mut [u8], at: usize, start: usize, name: &[u8]) -> usize
-    requires { at + entryLength ≤ length buffer.old }
-    ensures { (result ≡ at + entryLength) × (buffer.new ≡ put buffer.old at (entryOf start name.now)) }
+    requires { at + entry_length ≤ length buffer.old }
+    ensures { (result ≡ at + entry_length) × (buffer.new ≡ put buffer.old at (entry_of start name.now)) }
 {
     let p = write16(buffer, at, start);
     write16(buffer, p, name.len())
@@ -34,8 +34,8 @@ pub fn write_entry(buffer: &mut [u8], at: usize, start: usize, name: &[u8]) -> u
 
 // Writes the two places of a pair at `at`, and gives the place behind them.
 pub fn write_pair(buffer: &mut [u8], at: usize, from: usize, to: usize) -> usize
-    requires { at + pairLength ≤ length buffer.old }
-    ensures { (result ≡ at + pairLength) × (buffer.new ≡ put buffer.old at (lePairs ((from, to) ∷ []))) }
+    requires { at + pair_length ≤ length buffer.old }
+    ensures { (result ≡ at + pair_length) × (buffer.new ≡ put buffer.old at (le_pairs ((from, to) ∷ []))) }
 {
     let p = write16(buffer, at, from);
     write16(buffer, p, to)

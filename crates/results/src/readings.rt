@@ -1,6 +1,6 @@
 // What a reading answers.
 ghost use Rattle.std.specs.Prelude.{◌≡◌, ◌≤◌};
-ghost use Rattle.parse.specs.Refusals.{refusalIn};
+ghost use Rattle.parse.specs.Refusals.{refusal_in};
 
 use parse::Answer;
 
@@ -12,12 +12,12 @@ pub fn refusal_out(
     length: &mut u64,
     offset: &mut u64,
 ) -> u32
-    requires { (refusalIn answer).number ≤ 15 }
-    ensures value { result ≡ (refusalIn answer).number }
-    ensures line_after { line.new ≡ (refusalIn answer).line }
-    ensures start_after { start.new ≡ (refusalIn answer).start }
-    ensures length_after { length.new ≡ (refusalIn answer).size }
-    ensures offset_after { offset.new ≡ (refusalIn answer).offset }
+    requires { (refusal_in answer).number ≤ 15 }
+    ensures value { result ≡ (refusal_in answer).number }
+    ensures line_after { line.new ≡ (refusal_in answer).line }
+    ensures start_after { start.new ≡ (refusal_in answer).start }
+    ensures length_after { length.new ≡ (refusal_in answer).size }
+    ensures offset_after { offset.new ≡ (refusal_in answer).offset }
 {
     match answer {
         Answer::Done => {

@@ -1,8 +1,8 @@
 // What a record holds, one by one, and whether two have the same name.
 ghost use Rattle.std.specs.Prelude.{◌≡◌};
-ghost use Rattle.model.specs.Opening.{numberOf, valueOr};
-ghost use Rattle.model.specs.Values.{oneIf, isPresent, partStart, partSize, fromStart, fromSize, toStart, toSize};
-ghost use Rattle.accessors.specs.Answers.{countsGiven, partGiven, pairGiven, boolGiven};
+ghost use Rattle.model.specs.Opening.{number_of, value_or};
+ghost use Rattle.model.specs.Values.{one_if, is_present, part_start, part_size, from_start_of, from_size_of, to_start_of, to_size_of};
+ghost use Rattle.accessors.specs.Answers.{counts_given, part_given, pair_given, bool_given};
 
 use accessors::{GivenBool, GivenCounts, GivenPair, GivenPart};
 
@@ -13,10 +13,10 @@ pub fn counts_out(
     subgraph: &mut u64,
     translation: &mut u64,
 ) -> u32
-    ensures value { result ≡ numberOf (countsGiven given) }
-    ensures names_after { names.new ≡ valueOr names.old (λ c. c.names) (countsGiven given) }
-    ensures subgraph_after { subgraph.new ≡ valueOr subgraph.old (λ c. c.subgraph) (countsGiven given) }
-    ensures translation_after { translation.new ≡ valueOr translation.old (λ c. c.translation) (countsGiven given) }
+    ensures value { result ≡ number_of (counts_given given) }
+    ensures names_after { names.new ≡ value_or names.old (λ c. c.names) (counts_given given) }
+    ensures subgraph_after { subgraph.new ≡ value_or subgraph.old (λ c. c.subgraph) (counts_given given) }
+    ensures translation_after { translation.new ≡ value_or translation.old (λ c. c.translation) (counts_given given) }
 {
     match given {
         GivenCounts::Refused(n) => n,
@@ -35,10 +35,10 @@ pub fn counts_out(
 
 // Hands out a part: whether there is one, where it starts and how long it is.
 pub fn part_out(given: GivenPart, present: &mut u64, start: &mut u64, length: &mut u64) -> u32
-    ensures value { result ≡ numberOf (partGiven given) }
-    ensures present_after { present.new ≡ valueOr present.old isPresent (partGiven given) }
-    ensures start_after { start.new ≡ valueOr start.old partStart (partGiven given) }
-    ensures length_after { length.new ≡ valueOr length.old partSize (partGiven given) }
+    ensures value { result ≡ number_of (part_given given) }
+    ensures present_after { present.new ≡ value_or present.old is_present (part_given given) }
+    ensures start_after { start.new ≡ value_or start.old part_start (part_given given) }
+    ensures length_after { length.new ≡ value_or length.old part_size (part_given given) }
 {
     match given {
         GivenPart::Refused(n) => n,
@@ -66,12 +66,12 @@ pub fn pair_out(
     to_start: &mut u64,
     to_length: &mut u64,
 ) -> u32
-    ensures value { result ≡ numberOf (pairGiven given) }
-    ensures present_after { present.new ≡ valueOr present.old isPresent (pairGiven given) }
-    ensures from_start_after { from_start.new ≡ valueOr from_start.old fromStart (pairGiven given) }
-    ensures from_length_after { from_length.new ≡ valueOr from_length.old fromSize (pairGiven given) }
-    ensures to_start_after { to_start.new ≡ valueOr to_start.old toStart (pairGiven given) }
-    ensures to_length_after { to_length.new ≡ valueOr to_length.old toSize (pairGiven given) }
+    ensures value { result ≡ number_of (pair_given given) }
+    ensures present_after { present.new ≡ value_or present.old is_present (pair_given given) }
+    ensures from_start_after { from_start.new ≡ value_or from_start.old from_start_of (pair_given given) }
+    ensures from_length_after { from_length.new ≡ value_or from_length.old from_size_of (pair_given given) }
+    ensures to_start_after { to_start.new ≡ value_or to_start.old to_start_of (pair_given given) }
+    ensures to_length_after { to_length.new ≡ value_or to_length.old to_size_of (pair_given given) }
 {
     match given {
         GivenPair::Refused(n) => n,
@@ -101,8 +101,8 @@ pub fn pair_out(
 
 // Hands out a yes or no.
 pub fn same_out(given: GivenBool, answer: &mut u64) -> u32
-    ensures value { result ≡ numberOf (boolGiven given) }
-    ensures answer_after { answer.new ≡ valueOr answer.old oneIf (boolGiven given) }
+    ensures value { result ≡ number_of (bool_given given) }
+    ensures answer_after { answer.new ≡ value_or answer.old one_if (bool_given given) }
 {
     match given {
         GivenBool::Refused(n) => n,

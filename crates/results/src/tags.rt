@@ -1,17 +1,17 @@
 // What a tag list holds, and what was removed from it.
 ghost use Rattle.std.specs.Prelude.{◌≡◌};
-ghost use Rattle.model.specs.Opening.{numberOf, valueOr};
-ghost use Rattle.model.specs.Values.{isPresent, orZero, keyStart, keySize, valueStart, valueSize};
-ghost use Rattle.tag_list.specs.Answers.{countGiven, tagGiven};
-ghost use Rattle.tag_edits.specs.Answers.{removalGiven};
+ghost use Rattle.model.specs.Opening.{number_of, value_or};
+ghost use Rattle.model.specs.Values.{is_present, or_zero, key_start_of, key_size_of, value_start_of, value_size_of};
+ghost use Rattle.tag_list.specs.Answers.{count_given, tag_given};
+ghost use Rattle.tag_edits.specs.Answers.{removal_given};
 
 use tag_edits::GivenRemoval;
 use tag_list::{GivenCount, GivenTag};
 
 // Hands out a count: how many tags.
 pub fn count_out(given: GivenCount, tags: &mut u64) -> u32
-    ensures value { result ≡ numberOf (countGiven given) }
-    ensures tags_after { tags.new ≡ valueOr tags.old (λ n. n) (countGiven given) }
+    ensures value { result ≡ number_of (count_given given) }
+    ensures tags_after { tags.new ≡ value_or tags.old (λ n. n) (count_given given) }
 {
     match given {
         GivenCount::Refused(n) => n,
@@ -31,12 +31,12 @@ pub fn tag_parts_out(
     value_start: &mut u64,
     value_length: &mut u64,
 ) -> u32
-    ensures value { result ≡ numberOf (tagGiven given) }
-    ensures present_after { present.new ≡ valueOr present.old isPresent (tagGiven given) }
-    ensures key_start_after { key_start.new ≡ valueOr key_start.old keyStart (tagGiven given) }
-    ensures key_length_after { key_length.new ≡ valueOr key_length.old keySize (tagGiven given) }
-    ensures value_start_after { value_start.new ≡ valueOr value_start.old valueStart (tagGiven given) }
-    ensures value_length_after { value_length.new ≡ valueOr value_length.old valueSize (tagGiven given) }
+    ensures value { result ≡ number_of (tag_given given) }
+    ensures present_after { present.new ≡ value_or present.old is_present (tag_given given) }
+    ensures key_start_after { key_start.new ≡ value_or key_start.old key_start_of (tag_given given) }
+    ensures key_length_after { key_length.new ≡ value_or key_length.old key_size_of (tag_given given) }
+    ensures value_start_after { value_start.new ≡ value_or value_start.old value_start_of (tag_given given) }
+    ensures value_length_after { value_length.new ≡ value_or value_length.old value_size_of (tag_given given) }
 {
     match given {
         GivenTag::Refused(n) => n,
@@ -66,9 +66,9 @@ pub fn tag_parts_out(
 
 // Hands out a removal: whether there was a value, and how many of its bytes were written.
 pub fn removal_out(given: GivenRemoval, present: &mut u64, written: &mut u64) -> u32
-    ensures value { result ≡ numberOf (removalGiven given) }
-    ensures present_after { present.new ≡ valueOr present.old isPresent (removalGiven given) }
-    ensures written_after { written.new ≡ valueOr written.old (orZero (λ n. n)) (removalGiven given) }
+    ensures value { result ≡ number_of (removal_given given) }
+    ensures present_after { present.new ≡ value_or present.old is_present (removal_given given) }
+    ensures written_after { written.new ≡ value_or written.old (or_zero (λ n. n)) (removal_given given) }
 {
     match given {
         GivenRemoval::Refused(n) => n,

@@ -1,4 +1,4 @@
--- The answer of a search between nodes that stand for names: it is the right one, so it is the definition's `bestPath` over lists that
+-- The answer of a search between nodes that stand for names: it is the right one, so it is the definition's `best_path` over lists that
 -- stand for the same relations.
 use mathlib.Core.Path.{◌≡◌, refl}
 use mathlib.Core.Bool.{Bool, true, false}
@@ -6,41 +6,41 @@ use mathlib.Core.List.{List}
 use mathlib.Core.Option.{Option, some, none}
 use Prim.Native.Nat.{ℕ, ◌-◌, ◌<◌}
 use Rattle.model.specs.Bytes.{Bytes}
-use Rattle.model.specs.Path.{Step, Relations, bestPath}
+use Rattle.model.specs.Path.{Step, Relations, best_path}
 use Rattle.model.specs.Statements as names
 use Rattle.search.specs.declared.Searched.{Searched}
 use Rattle.search.specs.Steps.{Moves}
-use Rattle.search.specs.Promise.{pathTo, SearchedFrom}
-use Rattle.search.specs.Names.{stepsOf, Stands}
+use Rattle.search.specs.Promise.{path_to, SearchedFrom}
+use Rattle.search.specs.Names.{steps_of, Stands}
 use Rattle.search.specs.Related.{StandsFor}
-use Rattle.search.proofs.Laws.{best-target, no-path}
-use Rattle.search.proofs.Named.{names_apart, path-back, best-there}
+use Rattle.search.proofs.Laws.{best_target, no_path}
+use Rattle.search.proofs.Named.{names_apart, path_back, best_there}
 use Rattle.search.proofs.Local.{RightPath, right_unique}
-use Rattle.search.proofs.Right.{best-right}
+use Rattle.search.proofs.Right.{best_right}
 
 -- the path that was found, or none
-abbrev pub pathIf : Bool → List Step → Option (List Step)
-pathIf true ss = some ss
-pathIf false ss = none
+abbrev pub path_if : Bool → List Step → Option (List Step)
+path_if true ss = some ss
+path_if false ss = none
 
 module _ (M : Moves) (size : ℕ) (name : ℕ → Bytes) (R : names.Relation) (stands : Stands M size name R)
     (from target : ℕ) (inside : from < size) (asked : target < size) (q places : List ℕ) (r : Searched) (s : SearchedFrom M size from target q places r) where
   -- the path to the last place taken, where the target is reached
   abbrev found : List Step
-  found = stepsOf name (pathTo q (r.taken - 1))
+  found = steps_of name (path_to q (r.taken - 1))
 
   target_none : r.reached ≡ false → (ss : List Step) → names.IsPath R (name from) ss (name target) → ⊥
   target_none e ss p =
-      let f = path-back M size name R stands ss from (name target) inside p in
+      let f = path_back M size name R stands ss from (name target) inside p in
       let d : f.end ≡ target = names_apart M size name R stands f.end target f.inside asked f.named in
-      no-path M size from target q places r s e f.moves (rw d at f.path)
+      no_path M size from target q places r s e f.moves (rw d at f.path)
 
-  pub answer-right : RightPath R (name from) (name target) (pathIf r.reached found)
-  answer-right = go r.reached refl
+  pub answer_right : RightPath R (name from) (name target) (path_if r.reached found)
+  answer_right = go r.reached refl
     where
-      go : (t : Bool) → r.reached ≡ t → RightPath R (name from) (name target) (pathIf t found)
-      go true e = best-there M size name R stands (pathTo q (r.taken - 1)) from target inside asked (best-target M size from target q places r s e)
+      go : (t : Bool) → r.reached ≡ t → RightPath R (name from) (name target) (path_if t found)
+      go true e = best_there M size name R stands (path_to q (r.taken - 1)) from target inside asked (best_target M size from target q places r s e)
       go false e = target_none e
 
-  pub answer-is : (p : Relations) → StandsFor p R → bestPath p (name from) (name target) ≡ pathIf r.reached found
-  answer-is p lists = right_unique R (name from) (name target) _ _ (best-right p R lists (name from) (name target)) answer-right
+  pub answer_is : (p : Relations) → StandsFor p R → best_path p (name from) (name target) ≡ path_if r.reached found
+  answer_is p lists = right_unique R (name from) (name target) _ _ (best_right p R lists (name from) (name target)) answer_right

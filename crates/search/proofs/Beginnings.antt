@@ -4,16 +4,16 @@ use mathlib.Core.List.{List}
 use Prim.Native.Nat.{ℕ, ◌+◌, ◌*◌, ◌%◌, ◌≤◌, ◌<◌}
 use native.Mathlib.Omega.{arith}
 use lib.ListN.{length, get_or}
-use Rattle.search.specs.Steps.{maxNodes, maxMoves, Made}
+use Rattle.search.specs.Steps.{max_nodes, max_moves, Made}
 use Rattle.search.specs.Table.{Rises, Begins, Indexed}
 
 pub record Indexing (steps starts : List ℕ) (v e : ℕ) : Type 0 where
   pub inside : e ≤ length steps
-  pub low : (i : ℕ) → i < e → get_or steps i 0 < v * maxMoves
+  pub low : (i : ℕ) → i < e → get_or steps i 0 < v * max_moves
   pub done : (u : ℕ) → u < v → Begins steps u (get_or starts u 0)
 
 -- an indexed table between n nodes
-pub made : (steps starts : List ℕ) (n : ℕ) → n ≤ maxNodes → Rises steps (length steps) → ((e : ℕ) → e < length steps → get_or steps e 0 % maxNodes < n)
+pub made : (steps starts : List ℕ) (n : ℕ) → n ≤ max_nodes → Rises steps (length steps) → ((e : ℕ) → e < length steps → get_or steps e 0 % max_nodes < n)
     → length starts ≡ n + 1 → Indexed steps starts → Made steps starts n
 made steps starts n small rises nodes long index = record {
   small = small;

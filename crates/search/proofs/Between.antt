@@ -9,49 +9,49 @@ use lib.ListN.{length}
 use lib.Dec.{leb}
 use borrow.Author.Tests.{le-leb, leb-true, leb-false}
 use Rattle.model.specs.Bytes.{Bytes}
-use Rattle.model.specs.Path.{Step, Relations, between, bestPath, pathBytes}
-use Rattle.model.specs.Outcome.{Answer, refusal, found, answered, nameOr, sized}
+use Rattle.model.specs.Path.{Step, Relations, between, best_path, path_bytes}
+use Rattle.model.specs.Outcome.{Answer, refusal, found, answered, name_or, sized}
 use Rattle.model.specs.Statements.{Relation, Best, RightBetween, Right, HasRoom}
 use Rattle.search.specs.Related.{StandsFor}
-use Rattle.search.proofs.Local.{RightPath, SameReach, right-local}
-use Rattle.search.proofs.Right.{best-right}
+use Rattle.search.proofs.Local.{RightPath, SameReach, right_local}
+use Rattle.search.proofs.Right.{best_right}
 
 -- what is answered where there is this much room
-abbrev pub answerOver : Relations → Option Bytes → Option Bytes → ℕ → Answer
-answerOver r m n room = sized room (answered (nameOr m) (between r m n))
+abbrev pub answer_over : Relations → Option Bytes → Option Bytes → ℕ → Answer
+answer_over r m n room = sized room (answered (name_or m) (between r m n))
 
-pub right-over : (r : Relations) (R : Relation) → StandsFor r R → (m n : Option Bytes) (room : ℕ) → Right R m n room (answerOver r m n room)
-right-over r R s none n room = refl
-right-over r R s (some a) none room = refl
-right-over r R s (some a) (some b) room = go (bestPath r a b) (best-right r R s a b)
+pub right_over : (r : Relations) (R : Relation) → StandsFor r R → (m n : Option Bytes) (room : ℕ) → Right R m n room (answer_over r m n room)
+right_over r R s none n room = refl
+right_over r R s (some a) none room = refl
+right_over r R s (some a) (some b) room = go (best_path r a b) (best_right r R s a b)
   where
-    fits : (ss : List Step) → Best R a ss b → (t : Bool) → leb (length (pathBytes a ss)) room ≡ t
-        → RightBetween R a b room (cond t (found (pathBytes a ss)) (refusal 17))
-    fits ss h true e = (ss, h, refl, leb-true (length (pathBytes a ss)) room e)
-    fits ss h false e = (refl, (ss, h, leb-false (length (pathBytes a ss)) room e))
+    fits : (ss : List Step) → Best R a ss b → (t : Bool) → leb (length (path_bytes a ss)) room ≡ t
+        → RightBetween R a b room (cond t (found (path_bytes a ss)) (refusal 17))
+    fits ss h true e = (ss, h, refl, leb-true (length (path_bytes a ss)) room e)
+    fits ss h false e = (refl, (ss, h, leb-false (length (path_bytes a ss)) room e))
 
     go : (o : Option (List Step)) → RightPath R a b o → RightBetween R a b room (sized room (answered a o))
     go none h = h
-    go (some ss) h = fits ss h (leb (length (pathBytes a ss)) room) refl
+    go (some ss) h = fits ss h (leb (length (path_bytes a ss)) room) refl
 
 -- an answer that has room is whole
 whole : (r : Relations) (R : Relation) → StandsFor r R → (m n : Option Bytes) (room : ℕ) → HasRoom R m n room
-    → answerOver r m n room ≡ answered (nameOr m) (between r m n)
+    → answer_over r m n room ≡ answered (name_or m) (between r m n)
 whole r R s none n room h = refl
 whole r R s (some a) none room h = refl
-whole r R s (some a) (some b) room h = go (bestPath r a b) (best-right r R s a b)
+whole r R s (some a) (some b) room h = go (best_path r a b) (best_right r R s a b)
   where
     go : (o : Option (List Step)) → RightPath R a b o → sized room (answered a o) ≡ answered a o
     go none i = refl
-    go (some ss) i = rw (le-leb (length (pathBytes a ss)) room (h ss i))
+    go (some ss) i = rw (le-leb (length (path_bytes a ss)) room (h ss i))
 
 module _ (r r' : Relations) (R R' : Relation) (s : StandsFor r R) (s' : StandsFor r' R') where
-  between-local : (m n : Option Bytes) → SameReach R R' m → between r m n ≡ between r' m n
-  between-local none n h = refl
-  between-local (some a) none h = refl
-  between-local (some a) (some b) h = right-local R R' a b h (bestPath r a b) (bestPath r' a b) (best-right r R s a b) (best-right r' R' s' a b)
+  between_local : (m n : Option Bytes) → SameReach R R' m → between r m n ≡ between r' m n
+  between_local none n h = refl
+  between_local (some a) none h = refl
+  between_local (some a) (some b) h = right_local R R' a b h (best_path r a b) (best_path r' a b) (best_right r R s a b) (best_right r' R' s' a b)
 
   pub local_over : (m n : Option Bytes) (room room' : ℕ) → SameReach R R' m → HasRoom R m n room → HasRoom R' m n room'
-      → answerOver r m n room ≡ answerOver r' m n room'
+      → answer_over r m n room ≡ answer_over r' m n room'
   local_over m n room room' same k k' =
-      whole r R s m n room k ∙ ap (answered (nameOr m)) (between-local m n same) ∙ sym (whole r' R' s' m n room' k')
+      whole r R s m n room k ∙ ap (answered (name_or m)) (between_local m n same) ∙ sym (whole r' R' s' m n room' k')

@@ -9,41 +9,41 @@ use native.Mathlib.Omega.{arith}
 use lib.ListN.{length}
 use Rattle.search.specs.declared.Searched.{Searched}
 use Rattle.search.specs.Steps.{Moves, IsPath, Earlier, Best}
-use Rattle.search.specs.Queue.{nodeAt}
-use Rattle.search.specs.Promise.{pathTo, Back, Among, Ends, SearchedFrom}
+use Rattle.search.specs.Queue.{node_at}
+use Rattle.search.specs.Promise.{path_to, Back, Among, Ends, SearchedFrom}
 
 module _ (R : Moves) (size from target : ℕ) (q places : List ℕ) (r : Searched) (s : SearchedFrom R size from target q places r) where
   -- the target is reached exactly if there is a path to it
-  pub reached-if : (ms : List ℕ) → IsPath R from ms target → r.reached ≡ true
-  reached-if ms p = ⊎_elim
+  pub reached_if : (ms : List ℕ) → IsPath R from ms target → r.reached ≡ true
+  reached_if ms p = ⊎_elim
       (λ (f : Among q r.taken target). (s.passed f.0 f.1 f.2).0)
-      (λ (f : (r.reached ≡ true) × ((j : ℕ) → j < r.taken → Earlier (pathTo q j) ms)). f.0)
+      (λ (f : (r.reached ≡ true) × ((j : ℕ) → j < r.taken → Earlier (path_to q j) ms)). f.0)
       (s.all ms target p)
 
-  pub target-last : r.reached ≡ true → nodeAt q (r.taken - 1) ≡ target
-  target-last e = go r.reached e s.ends
+  pub target_last : r.reached ≡ true → node_at q (r.taken - 1) ≡ target
+  target_last e = go r.reached e s.ends
     where
-      go : (t : Bool) → t ≡ true → Ends q target r.taken r.found t → nodeAt q (r.taken - 1) ≡ target
+      go : (t : Bool) → t ≡ true → Ends q target r.taken r.found t → node_at q (r.taken - 1) ≡ target
       go true e h = h
       go false e h = absurd (false≢true e)
 
-  pub best-target : r.reached ≡ true → Best R from (pathTo q (r.taken - 1)) target
-  best-target e = rw (target-last e) at (s.best (r.taken - 1) (omega (arith, s.start.0)))
+  pub best_target : r.reached ≡ true → Best R from (path_to q (r.taken - 1)) target
+  best_target e = rw (target_last e) at (s.best (r.taken - 1) (omega (arith, s.start.0)))
 
-  pub no-path : r.reached ≡ false → (ms : List ℕ) → IsPath R from ms target → ⊥
-  no-path e ms p = false≢true (sym e ∙ reached-if ms p)
+  pub no_path : r.reached ≡ false → (ms : List ℕ) → IsPath R from ms target → ⊥
+  no_path e ms p = false≢true (sym e ∙ reached_if ms p)
 
-  pub node-inside : (j : ℕ) → j < r.taken → nodeAt q j < size
-  node-inside j l = omega (arith, s.seats.inside j (omega (arith, s.count.0)), s.places-long)
+  pub node_inside : (j : ℕ) → j < r.taken → node_at q j < size
+  node_inside j l = omega (arith, s.seats.inside j (omega (arith, s.count.0)), s.places_long)
 
   -- with a target that is no node the search runs to the end
   pub whole_run : size ≤ target → r.taken ≡ r.found
   whole_run l = go r.reached refl s.ends
     where
       go : (t : Bool) → r.reached ≡ t → Ends q target r.taken r.found t → r.taken ≡ r.found
-      go true e h = absurd (omega (arith, h, node-inside (r.taken - 1) (omega (arith, s.start.0))))
+      go true e h = absurd (omega (arith, h, node_inside (r.taken - 1) (omega (arith, s.start.0))))
       go false e h = h
 
   -- every found place can be walked back from
-  pub leads-back : size ≤ length q → (j : ℕ) → j < r.found → Back q j
-  leads-back room j l = record { inside = omega (arith, s.count.1); falls = λ i z m. s.falls i z (omega arith) }
+  pub leads_back : size ≤ length q → (j : ℕ) → j < r.found → Back q j
+  leads_back room j l = record { inside = omega (arith, s.count.1); falls = λ i z m. s.falls i z (omega arith) }

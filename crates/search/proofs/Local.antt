@@ -8,7 +8,7 @@ use Rattle.model.specs.declared.Kind.{Kind}
 use Rattle.model.specs.Bytes.{Bytes}
 use Rattle.model.specs.Path.{Step}
 use Rattle.model.specs.Statements.{Relation, IsPath, Best, Reachable}
-use Rattle.search.proofs.Compared.{best-unique}
+use Rattle.search.proofs.Compared.{best_unique}
 
 -- no path, or the best one
 abbrev pub RightPath : Relation → Bytes → Bytes → Option (List Step) → Type 0
@@ -19,7 +19,7 @@ pub right_unique : (R : Relation) (a b : Bytes) (p q : Option (List Step)) → R
 right_unique R a b none none h i = refl
 right_unique R a b none (some ts) h i = absurd (h ts i.path)
 right_unique R a b (some ss) none h i = absurd (i ss h.path)
-right_unique R a b (some ss) (some ts) h i = ap {B = Option (List Step)} some (best-unique R a b ss ts h i)
+right_unique R a b (some ss) (some ts) h i = ap {B = Option (List Step)} some (best_unique R a b ss ts h i)
 
 -- ------------------------------------------------------------------ only the reachable relations count
 
@@ -31,21 +31,21 @@ module _ (R R' : Relation) where
   unfolding IsPath
   from_next a s r h n p k m = h n (s ∷ p.0, (r, p.1)) k m
 
-  path-there : (ss : List Step) (a b : Bytes) → SameReach R R' (some a) → IsPath R a ss b → IsPath R' a ss b
+  path_there : (ss : List Step) (a b : Bytes) → SameReach R R' (some a) → IsPath R a ss b → IsPath R' a ss b
   unfolding IsPath
-  path-there [] a b h p = p
-  path-there (s ∷ ss) a b h p = ((h a ([], refl) s.kind s.next).0 p.0, path-there ss s.next b (from_next a s p.0 h) p.1)
+  path_there [] a b h p = p
+  path_there (s ∷ ss) a b h p = ((h a ([], refl) s.kind s.next).0 p.0, path_there ss s.next b (from_next a s p.0 h) p.1)
 
-  path-back : (ss : List Step) (a b : Bytes) → SameReach R R' (some a) → IsPath R' a ss b → IsPath R a ss b
+  path_back : (ss : List Step) (a b : Bytes) → SameReach R R' (some a) → IsPath R' a ss b → IsPath R a ss b
   unfolding IsPath
-  path-back [] a b h p = p
-  path-back (s ∷ ss) a b h p =
+  path_back [] a b h p = p
+  path_back (s ∷ ss) a b h p =
       let r : R s.kind a s.next = (h a ([], refl) s.kind s.next).1 p.0 in
-      (r, path-back ss s.next b (from_next a s r h) p.1)
+      (r, path_back ss s.next b (from_next a s r h) p.1)
 
-  pub right-carry : (a b : Bytes) → SameReach R R' (some a) → (p : Option (List Step)) → RightPath R a b p → RightPath R' a b p
-  right-carry a b h none p = λ ss q. p ss (path-back ss a b h q)
-  right-carry a b h (some ss) p = record { path = path-there ss a b h p.path; first = λ ts q. p.first ts (path-back ts a b h q) }
+  pub right_carry : (a b : Bytes) → SameReach R R' (some a) → (p : Option (List Step)) → RightPath R a b p → RightPath R' a b p
+  right_carry a b h none p = λ ss q. p ss (path_back ss a b h q)
+  right_carry a b h (some ss) p = record { path = path_there ss a b h p.path; first = λ ts q. p.first ts (path_back ts a b h q) }
 
-  pub right-local : (a b : Bytes) → SameReach R R' (some a) → (p q : Option (List Step)) → RightPath R a b p → RightPath R' a b q → p ≡ q
-  right-local a b h p q i j = right_unique R' a b p q (right-carry a b h p i) j
+  pub right_local : (a b : Bytes) → SameReach R R' (some a) → (p q : Option (List Step)) → RightPath R a b p → RightPath R' a b q → p ≡ q
+  right_local a b h p q i j = right_unique R' a b p q (right_carry a b h p i) j

@@ -8,34 +8,34 @@ use native.Mathlib.Decide.{dec_lt}
 use native.Mathlib.Omega.{arith}
 use lib.ListN.{length, get_or, set}
 use lib.Seq.{get_or-set_same, get_or-set_other}
-use Rattle.search.specs.Table.{Rises, Holds, Written, restOf, Merged}
+use Rattle.search.specs.Table.{Rises, Holds, Written, rest_of, Merged}
 use Rattle.search.proofs.Tree.{below}
 
 -- i of the numbers of a and j of b are passed, and make n numbers
 pub record Merging (a b out : List ℕ) (i j n : ℕ) : Type 0 where
-  pub i-in : i ≤ length a
-  pub j-in : j ≤ length b
+  pub i_in : i ≤ length a
+  pub j_in : j ≤ length b
   pub count : n ≤ i + j
   pub rises : Rises out n
-  pub low-a : (k l : ℕ) → k < n → i ≤ l → l < length a → get_or out k 0 < get_or a l 0
-  pub low-b : (k l : ℕ) → k < n → j ≤ l → l < length b → get_or out k 0 < get_or b l 0
+  pub low_a : (k l : ℕ) → k < n → i ≤ l → l < length a → get_or out k 0 < get_or a l 0
+  pub low_b : (k l : ℕ) → k < n → j ≤ l → l < length b → get_or out k 0 < get_or b l 0
   pub either : (x : ℕ) → Holds out n x → Holds a i x ⊎ Holds b j x
   pub first : (x : ℕ) → Holds a i x → Holds out n x
   pub second : (x : ℕ) → Holds b j x → Holds out n x
 
 -- both are passed whole
-pub merging-end : (a b out : List ℕ) (n : ℕ) → Merging a b out (length a) (length b) n → Merged a b out n
-merging-end a b out n m = record { count = m.count; rises = m.rises; either = m.either; first = m.first; second = m.second }
+pub merging_end : (a b out : List ℕ) (n : ℕ) → Merging a b out (length a) (length b) n → Merged a b out n
+merging_end a b out n m = record { count = m.count; rises = m.rises; either = m.either; first = m.first; second = m.second }
 
 -- the other way round
-pub merging-turned : (a b out : List ℕ) (i j n : ℕ) → Merging a b out i j n → Merging b a out j i n
-merging-turned a b out i j n m = record {
-  i-in = m.j-in;
-  j-in = m.i-in;
+pub merging_turned : (a b out : List ℕ) (i j n : ℕ) → Merging a b out i j n → Merging b a out j i n
+merging_turned a b out i j n m = record {
+  i_in = m.j_in;
+  j_in = m.i_in;
   count = omega (arith, m.count);
   rises = m.rises;
-  low-a = m.low-b;
-  low-b = m.low-a;
+  low_a = m.low_b;
+  low_b = m.low_a;
   either = λ x h. ⊎_elim inr inl (m.either x h);
   first = m.second;
   second = m.first;
@@ -52,19 +52,19 @@ module _ (a b out : List ℕ) (i j n : ℕ) (m : Merging a b out i j n) (room : 
   push : (v i' j' : ℕ) → Passes a i i' v → Passes b j j' v → n + 1 ≤ i' + j' → Holds a i' v ⊎ Holds b j' v
       → ((k : ℕ) → k < n → get_or out k 0 < v) → Merging a b (set out n v) i' j' (n + 1)
   push v i' j' p q count from low = record {
-    i-in = p.1;
-    j-in = q.1;
+    i_in = p.1;
+    j_in = q.1;
     count = count;
     rises = λ k l o h. ⊎_elim
-        (λ (w : l < n). let k-in : k < n = omega arith in rw (old k k-in, old l w) (m.rises k l o w))
-        (λ (e : l ≡ n). let k-in : k < n = omega arith in rw (e, old k k-in, new) (low k k-in))
+        (λ (w : l < n). let k_in : k < n = omega arith in rw (old k k_in, old l w) (m.rises k l o w))
+        (λ (e : l ≡ n). let k_in : k < n = omega arith in rw (e, old k k_in, new) (low k k_in))
         (below l n h);
-    low-a = λ k l h o w. ⊎_elim
-        (λ (c : k < n). rw (old k c) (m.low-a k l c (omega (arith, p.0)) w))
+    low_a = λ k l h o w. ⊎_elim
+        (λ (c : k < n). rw (old k c) (m.low_a k l c (omega (arith, p.0)) w))
         (λ (e : k ≡ n). rw (e, new) (p.3 l o w))
         (below k n h);
-    low-b = λ k l h o w. ⊎_elim
-        (λ (c : k < n). rw (old k c) (m.low-b k l c (omega (arith, q.0)) w))
+    low_b = λ k l h o w. ⊎_elim
+        (λ (c : k < n). rw (old k c) (m.low_b k l c (omega (arith, q.0)) w))
         (λ (e : k ≡ n). rw (e, new) (q.3 l o w))
         (below k n h);
     either = λ x h. ⊎_elim
@@ -108,34 +108,34 @@ module _ (s : List ℕ) (rises : Rises s (length s)) (k : ℕ) (within : k < len
   )
 
 -- the next number is that of the first, or both have it
-module _ (a b out : List ℕ) (i j n : ℕ) (m : Merging a b out i j n) (rises-a : Rises a (length a)) (rises-b : Rises b (length b)) (room : n < length out) (more-a : i < length a) (more-b : j < length b) where
-  next-of-first : (j' : ℕ) → j ≤ j' → Passes b j j' (get_or a i 0) → Merging a b (set out n (get_or a i 0)) (i + 1) j' (n + 1)
-  next-of-first j' l p =
-      push a b out i j n m room (get_or a i 0) (i + 1) j' (passes a rises-a i more-a) p (omega (arith, m.count)) (inl (i, omega arith, refl)) (λ k o. m.low-a k i o (omega arith) more-a)
+module _ (a b out : List ℕ) (i j n : ℕ) (m : Merging a b out i j n) (rises_a : Rises a (length a)) (rises_b : Rises b (length b)) (room : n < length out) (more_a : i < length a) (more_b : j < length b) where
+  next_of_first : (j' : ℕ) → j ≤ j' → Passes b j j' (get_or a i 0) → Merging a b (set out n (get_or a i 0)) (i + 1) j' (n + 1)
+  next_of_first j' l p =
+      push a b out i j n m room (get_or a i 0) (i + 1) j' (passes a rises_a i more_a) p (omega (arith, m.count)) (inl (i, omega arith, refl)) (λ k o. m.low_a k i o (omega arith) more_a)
 
-  pub take-first : get_or a i 0 < get_or b j 0 → Merging a b (set out n (get_or a i 0)) (i + 1) j (n + 1)
-  take-first l = next-of-first j (omega arith) (stays b rises-b j more-b (get_or a i 0) l)
+  pub take_first : get_or a i 0 < get_or b j 0 → Merging a b (set out n (get_or a i 0)) (i + 1) j (n + 1)
+  take_first l = next_of_first j (omega arith) (stays b rises_b j more_b (get_or a i 0) l)
 
-  pub take-both : get_or a i 0 ≡ get_or b j 0 → Merging a b (set out n (get_or a i 0)) (i + 1) (j + 1) (n + 1)
-  take-both e = next-of-first (j + 1) (omega arith) (rw e (passes b rises-b j more-b))
+  pub take_both : get_or a i 0 ≡ get_or b j 0 → Merging a b (set out n (get_or a i 0)) (i + 1) (j + 1) (n + 1)
+  take_both e = next_of_first (j + 1) (omega arith) (rw e (passes b rises_b j more_b))
 
 -- ------------------------------------------------------------------ the rest of one
 
 -- where one of the two is passed whole, the rest of the first goes behind what there is
-module _ (a b out after : List ℕ) (i j n : ℕ) (m : Merging a b out i j n) (rises-a : Rises a (length a)) (over : (i ≡ length a) ⊎ (j ≡ length b))
-    (w : Written out after n (length a - i) (restOf a i)) where
+module _ (a b out after : List ℕ) (i j n : ℕ) (m : Merging a b out i j n) (rises_a : Rises a (length a)) (over : (i ≡ length a) ⊎ (j ≡ length b))
+    (w : Written out after n (length a - i) (rest_of a i)) where
   -- a place behind is one of the rest
   behind : (k : ℕ) → n ≤ k → k < n + (length a - i) → (i + (k - n) < length a) × (get_or after k 0 ≡ get_or a (i + (k - n)) 0)
-  behind k l h = let e : n + (k - n) ≡ k = omega arith in (omega (arith, m.i-in), rw e at (w.filled (k - n) (omega arith)))
+  behind k l h = let e : n + (k - n) ≡ k = omega arith in (omega (arith, m.i_in), rw e at (w.filled (k - n) (omega arith)))
 
-  pub merging-rest : Merging a b after (length a) j (n + (length a - i))
-  merging-rest = record {
-    i-in = omega arith;
-    j-in = m.j-in;
-    count = omega (arith, m.count, m.i-in);
+  pub merging_rest : Merging a b after (length a) j (n + (length a - i))
+  merging_rest = record {
+    i_in = omega arith;
+    j_in = m.j_in;
+    count = omega (arith, m.count, m.i_in);
     rises = λ k l o h. rising k l o h (dec_lt k n) (dec_lt l n);
-    low-a = λ k l h o c. absurd (omega arith);
-    low-b = λ k l h o c. low k l h o c (dec_lt k n);
+    low_a = λ k l h o c. absurd (omega arith);
+    low_b = λ k l h o c. low k l h o c (dec_lt k n);
     either = λ x h. back x h (dec_lt h.0 n);
     first = λ x h. there x h (dec_lt h.0 i);
     second = λ x h. kept x (m.second x h);
@@ -143,21 +143,21 @@ module _ (a b out after : List ℕ) (i j n : ℕ) (m : Merging a b out i j n) (r
     where
       rising : (k l : ℕ) → k < l → l < n + (length a - i) → Dec (k < n) → Dec (l < n) → get_or after k 0 < get_or after l 0
       rising k l o h (yes c) (yes d) = rw (w.kept k c, w.kept l d) (m.rises k l o d)
-      rising k l o h (yes c) (no d) = let f = behind l (omega arith) h in rw (w.kept k c, f.1) (m.low-a k (i + (l - n)) c (omega arith) f.0)
+      rising k l o h (yes c) (no d) = let f = behind l (omega arith) h in rw (w.kept k c, f.1) (m.low_a k (i + (l - n)) c (omega arith) f.0)
       rising k l o h (no c) d =
           let e = behind k (omega arith) (omega arith) in
           let f = behind l (omega arith) h in
-          rw (e.1, f.1) (rises-a (i + (k - n)) (i + (l - n)) (omega arith) f.0)
+          rw (e.1, f.1) (rises_a (i + (k - n)) (i + (l - n)) (omega arith) f.0)
 
       low : (k l : ℕ) → k < n + (length a - i) → j ≤ l → l < length b → Dec (k < n) → get_or after k 0 < get_or b l 0
-      low k l h o c (yes d) = rw (w.kept k d) (m.low-b k l d o c)
+      low k l h o c (yes d) = rw (w.kept k d) (m.low_b k l d o c)
       low k l h o c (no d) = absurd (⊎_elim (λ (e : i ≡ length a). omega arith) (λ (e : j ≡ length b). omega arith) over)
 
       kept : (x : ℕ) → Holds out n x → Holds after (n + (length a - i)) x
       kept x h = let l : h.0 < n = h.1 in (h.0, omega arith, w.kept h.0 l ∙ h.2)
 
       back : (x : ℕ) (h : Holds after (n + (length a - i)) x) → Dec (h.0 < n) → Holds a (length a) x ⊎ Holds b j x
-      back x h (yes c) = ⊎_elim (λ (f : Holds a i x). inl (f.0, omega (arith, f.1, m.i-in), f.2)) inr (m.either x (h.0, c, sym (w.kept h.0 c) ∙ h.2))
+      back x h (yes c) = ⊎_elim (λ (f : Holds a i x). inl (f.0, omega (arith, f.1, m.i_in), f.2)) inr (m.either x (h.0, c, sym (w.kept h.0 c) ∙ h.2))
       back x h (no c) = let f = behind h.0 (omega arith) h.1 in inl (i + (h.0 - n), f.0, sym f.1 ∙ h.2)
 
       there : (x : ℕ) (h : Holds a (length a) x) → Dec (h.0 < i) → Holds after (n + (length a - i)) x

@@ -6,43 +6,43 @@ use native.Mathlib.Omega.{arith}
 use lib.ListN.{length, take, drop, length-take}
 use borrow.Author.Tests.{lt-ltb, le-ltb}
 use Rattle.model.specs.Bytes.{Bytes}
-use Rattle.search.specs.Spans.{spanLengths, spanned}
+use Rattle.search.specs.Spans.{span_lengths, spanned}
 
 module _ (b c : Bytes) (s : ℕ) where
-  pub spanned-first : s / spanLengths < length b → spanned b c s ≡ take (s % spanLengths) (drop (s / spanLengths) b)
+  pub spanned_first : s / span_lengths < length b → spanned b c s ≡ take (s % span_lengths) (drop (s / span_lengths) b)
   unfolding spanned
-  spanned-first l = rw (lt-ltb (s / spanLengths) (length b) l)
+  spanned_first l = rw (lt-ltb (s / span_lengths) (length b) l)
 
-  pub spanned-second : length b ≤ s / spanLengths → spanned b c s ≡ take (s % spanLengths) (drop (s / spanLengths - length b) c)
+  pub spanned_second : length b ≤ s / span_lengths → spanned b c s ≡ take (s % span_lengths) (drop (s / span_lengths - length b) c)
   unfolding spanned
-  spanned-second l = rw (le-ltb (s / spanLengths) (length b) l)
+  spanned_second l = rw (le-ltb (s / span_lengths) (length b) l)
 
-pub part-short : (n at : ℕ) (b : Bytes) → length (take n (drop at b)) ≤ n
-part-short n at b = rw (length-take n (drop at b)) (omega arith)
+pub part_short : (n at : ℕ) (b : Bytes) → length (take n (drop at b)) ≤ n
+part_short n at b = rw (length-take n (drop at b)) (omega arith)
 
 -- the span of `size` bytes from `start` on
-module _ (b c : Bytes) (start size : ℕ) (few : size < spanLengths) where
-  start_is : (start * spanLengths + size) / spanLengths ≡ start
+module _ (b c : Bytes) (start size : ℕ) (few : size < span_lengths) where
+  start_is : (start * span_lengths + size) / span_lengths ≡ start
   start_is = omega arith
 
-  size_is : (start * spanLengths + size) % spanLengths ≡ size
+  size_is : (start * span_lengths + size) % span_lengths ≡ size
   size_is = omega arith
 
   -- that ends in the first
-  pub span-in-first : start + size ≤ length b → spanned b c (start * spanLengths + size) ≡ take size (drop start b)
-  span-in-first l = go (dec_lt start (length b))
+  pub span_in_first : start + size ≤ length b → spanned b c (start * span_lengths + size) ≡ take size (drop start b)
+  span_in_first l = go (dec_lt start (length b))
     where
-      go : Dec (start < length b) → spanned b c (start * spanLengths + size) ≡ take size (drop start b)
-      go (yes o) = rw (start_is, size_is) at (spanned-first b c (start * spanLengths + size) (rw start_is o))
+      go : Dec (start < length b) → spanned b c (start * span_lengths + size) ≡ take size (drop start b)
+      go (yes o) = rw (start_is, size_is) at (spanned_first b c (start * span_lengths + size) (rw start_is o))
       go (no o) =
           let none : size ≡ 0 = omega arith in
-          rw (start_is, size_is) at (spanned-second b c (start * spanLengths + size) (rw start_is (omega arith)))
+          rw (start_is, size_is) at (spanned_second b c (start * span_lengths + size) (rw start_is (omega arith)))
           ∙ rw none
 
 -- or lies in the second
-pub span-in-second : (b c : Bytes) (start size : ℕ) → size < spanLengths → spanned b c ((length b + start) * spanLengths + size) ≡ take size (drop start c)
-span-in-second b c start size few =
-    let p : ((length b + start) * spanLengths + size) / spanLengths ≡ length b + start = omega arith in
-    let q : ((length b + start) * spanLengths + size) % spanLengths ≡ size = omega arith in
+pub span_in_second : (b c : Bytes) (start size : ℕ) → size < span_lengths → spanned b c ((length b + start) * span_lengths + size) ≡ take size (drop start c)
+span_in_second b c start size few =
+    let p : ((length b + start) * span_lengths + size) / span_lengths ≡ length b + start = omega arith in
+    let q : ((length b + start) * span_lengths + size) % span_lengths ≡ size = omega arith in
     let r : length b + start - length b ≡ start = omega arith in
-    rw (p, q, r) at (spanned-second b c ((length b + start) * spanLengths + size) (rw p (omega arith)))
+    rw (p, q, r) at (spanned_second b c ((length b + start) * span_lengths + size) (rw p (omega arith)))

@@ -9,41 +9,41 @@ use native.Mathlib.Numerals.{add-one}
 use native.Mathlib.Omega.{arith}
 use lib.ListN.{length, get_or, set, length-set}
 use lib.Seq.{get_or-set_same, get_or-set_other}
-use Rattle.search.specs.Steps.{maxNodes, maxMoves, Moves}
-use Rattle.search.specs.Queue.{nodeAt, prevAt, moveAt, zeros, Places, FoundBy, Tree}
+use Rattle.search.specs.Steps.{max_nodes, max_moves, Moves}
+use Rattle.search.specs.Queue.{node_at, prev_at, move_at, zeros, Places, FoundBy, Tree}
 
 pub below : (j n : ℕ) → j < n + 1 → (j < n) ⊎ (j ≡ n)
 below j n l = ⊎_elim inr inl (eq-or-lt_of_le (omega arith))
 
 -- ------------------------------------------------------------------ nodes that are not found
 
-pub zeros-set : (l : List ℕ) (i k : ℕ) → i < length l → get_or l i 0 ≡ 0 → zeros (set l i (k + 1)) + 1 ≡ zeros l
+pub zeros_set : (l : List ℕ) (i k : ℕ) → i < length l → get_or l i 0 ≡ 0 → zeros (set l i (k + 1)) + 1 ≡ zeros l
 unfolding zeros
-zeros-set [] i k l e = absurd (not-suc-le-zero l)
-zeros-set (zero ∷ xs) zero k l e = rw (add-one k) (omega arith)
-zeros-set (suc x ∷ xs) zero k l e = absurd (omega arith)
-zeros-set (zero ∷ xs) (suc i) k l e = let h = zeros-set xs i k (le_of_suc-le-suc l) e in omega arith
-zeros-set (suc x ∷ xs) (suc i) k l e = zeros-set xs i k (le_of_suc-le-suc l) e
+zeros_set [] i k l e = absurd (not-suc-le-zero l)
+zeros_set (zero ∷ xs) zero k l e = rw (add-one k) (omega arith)
+zeros_set (suc x ∷ xs) zero k l e = absurd (omega arith)
+zeros_set (zero ∷ xs) (suc i) k l e = let h = zeros_set xs i k (le_of_suc-le-suc l) e in omega arith
+zeros_set (suc x ∷ xs) (suc i) k l e = zeros_set xs i k (le_of_suc-le-suc l) e
 
-pub zeros-all : (l : List ℕ) → ((i : ℕ) → i < length l → get_or l i 0 ≡ 0) → zeros l ≡ length l
+pub zeros_all : (l : List ℕ) → ((i : ℕ) → i < length l → get_or l i 0 ≡ 0) → zeros l ≡ length l
 unfolding zeros
-zeros-all [] h = refl
-zeros-all (zero ∷ xs) h = ap suc (zeros-all xs (λ i l. h (suc i) (suc-le-suc l)))
-zeros-all (suc x ∷ xs) h = absurd (let e : suc x ≡ 0 = h 0 (omega arith) in omega arith)
+zeros_all [] h = refl
+zeros_all (zero ∷ xs) h = ap suc (zeros_all xs (λ i l. h (suc i) (suc-le-suc l)))
+zeros_all (suc x ∷ xs) h = absurd (let e : suc x ≡ 0 = h 0 (omega arith) in omega arith)
 
 -- ------------------------------------------------------------------ where they stand
 
 -- one node more, at the end
-pub places-push : (q places : List ℕ) (n y : ℕ) → Places q places n → n < length q → y % maxNodes < length places → get_or places (y % maxNodes) 0 ≡ 0
-    → Places (set q n y) (set places (y % maxNodes) (n + 1)) (n + 1)
-places-push q places n y s room small z = record {
+pub places_push : (q places : List ℕ) (n y : ℕ) → Places q places n → n < length q → y % max_nodes < length places → get_or places (y % max_nodes) 0 ≡ 0
+    → Places (set q n y) (set places (y % max_nodes) (n + 1)) (n + 1)
+places_push q places n y s room small z = record {
   seat = λ j l. ⊎_elim
-      (λ (o : j < n). rw (old j o, other (nodeAt q j) (fresh j o)) (s.seat j o))
+      (λ (o : j < n). rw (old j o, other (node_at q j) (fresh j o)) (s.seat j o))
       (λ (e : j ≡ n). rw (e, new, placed))
       (below j n l);
-  inside = λ j l. rw (length-set places (y % maxNodes) (n + 1)) (⊎_elim (λ (o : j < n). rw (old j o) (s.inside j o)) (λ (e : j ≡ n). rw (e, new) small) (below j n l));
-  low = λ v l. at_low v (rw length-set at l) (ℕ_discrete v (y % maxNodes));
-  back = λ v l p. at_back v (rw length-set at l) p (ℕ_discrete v (y % maxNodes));
+  inside = λ j l. rw (length-set places (y % max_nodes) (n + 1)) (⊎_elim (λ (o : j < n). rw (old j o) (s.inside j o)) (λ (e : j ≡ n). rw (e, new) small) (below j n l));
+  low = λ v l. at_low v (rw length-set at l) (ℕ_discrete v (y % max_nodes));
+  back = λ v l p. at_back v (rw length-set at l) p (ℕ_discrete v (y % max_nodes));
 }
   where
     old : (j : ℕ) → j < n → get_or (set q n y) j 0 ≡ get_or q j 0
@@ -52,21 +52,21 @@ places-push q places n y s room small z = record {
     new : get_or (set q n y) n 0 ≡ y
     new = get_or-set_same q n y 0 room
 
-    placed : get_or (set places (y % maxNodes) (n + 1)) (y % maxNodes) 0 ≡ n + 1
-    placed = get_or-set_same places (y % maxNodes) (n + 1) 0 small
+    placed : get_or (set places (y % max_nodes) (n + 1)) (y % max_nodes) 0 ≡ n + 1
+    placed = get_or-set_same places (y % max_nodes) (n + 1) 0 small
 
-    other : (v : ℕ) → (v ≡ y % maxNodes → ⊥) → get_or (set places (y % maxNodes) (n + 1)) v 0 ≡ get_or places v 0
-    other v d = get_or-set_other places (y % maxNodes) v (n + 1) 0 d
+    other : (v : ℕ) → (v ≡ y % max_nodes → ⊥) → get_or (set places (y % max_nodes) (n + 1)) v 0 ≡ get_or places v 0
+    other v d = get_or-set_other places (y % max_nodes) v (n + 1) 0 d
 
-    fresh : (j : ℕ) → j < n → nodeAt q j ≡ y % maxNodes → ⊥
+    fresh : (j : ℕ) → j < n → node_at q j ≡ y % max_nodes → ⊥
     fresh j l e = omega (arith, s.seat j l, z, ap (λ (v : ℕ). get_or places v 0) e)
 
-    at_low : (v : ℕ) → v < length places → Dec (v ≡ y % maxNodes) → get_or (set places (y % maxNodes) (n + 1)) v 0 ≤ n + 1
+    at_low : (v : ℕ) → v < length places → Dec (v ≡ y % max_nodes) → get_or (set places (y % max_nodes) (n + 1)) v 0 ≤ n + 1
     at_low v l (yes e) = rw (e, placed) (omega arith)
     at_low v l (no d) = rw (other v d) (omega (arith, s.low v l))
 
-    at_back : (v : ℕ) → v < length places → 0 < get_or (set places (y % maxNodes) (n + 1)) v 0 → Dec (v ≡ y % maxNodes)
-        → nodeAt (set q n y) (get_or (set places (y % maxNodes) (n + 1)) v 0 - 1) ≡ v
+    at_back : (v : ℕ) → v < length places → 0 < get_or (set places (y % max_nodes) (n + 1)) v 0 → Dec (v ≡ y % max_nodes)
+        → node_at (set q n y) (get_or (set places (y % max_nodes) (n + 1)) v 0 - 1) ≡ v
     at_back v l p (yes e) =
         let i : n + 1 - 1 ≡ n = omega arith in
         rw (e, placed, i, new)
@@ -75,11 +75,11 @@ places-push q places n y s room small z = record {
         let i : get_or places v 0 - 1 < n = omega (arith, s.low v l) in
         rw (other v d, old (get_or places v 0 - 1) i) (s.back v l o)
 
-pub places-start : (q places : List ℕ) (a : ℕ) → 0 < length q → a < length places → length places ≤ maxNodes
+pub places_start : (q places : List ℕ) (a : ℕ) → 0 < length q → a < length places → length places ≤ max_nodes
     → ((v : ℕ) → v < length places → get_or places v 0 ≡ 0) → Places (set q 0 a) (set places a 1) 1
-places-start q places a room small few clear =
-    let e : a % maxNodes ≡ a = omega arith in
-    rw e at (places-push q places 0 a none room (rw e small) (rw e (clear a small)))
+places_start q places a room small few clear =
+    let e : a % max_nodes ≡ a = omega arith in
+    rw e at (places_push q places 0 a none room (rw e small) (rw e (clear a small)))
   where
     none : Places q places 0
     none = record {
@@ -92,8 +92,8 @@ places-start q places a room small few clear =
 -- ------------------------------------------------------------------ the steps that are done
 
 module _ (R : Moves) where
-  pub tree-start : (q : List ℕ) → get_or q 0 0 < maxNodes → Tree R q 1 0
-  tree-start q l = record {
+  pub tree_start : (q : List ℕ) → get_or q 0 0 < max_nodes → Tree R q 1 0
+  tree_start q l = record {
     some = omega arith;
     root = l;
     falls = λ j z l. absurd (omega arith);
@@ -105,100 +105,100 @@ module _ (R : Moves) where
 
   module _ (q : List ℕ) (n x : ℕ) (t : Tree R q n x) where
     -- no step stands between
-    pub tree-move : (y : ℕ) → x ≤ y → ((p m : ℕ) → p < n → x ≤ p * maxMoves + m → p * maxMoves + m < y → R (nodeAt q p) m → ⊥) → Tree R q n y
-    tree-move y l none = record {
+    pub tree_move : (y : ℕ) → x ≤ y → ((p m : ℕ) → p < n → x ≤ p * max_moves + m → p * max_moves + m < y → R (node_at q p) m → ⊥) → Tree R q n y
+    tree_move y l none = record {
       some = t.some;
       root = t.root;
       falls = t.falls;
       steps = t.steps;
       rises = t.rises;
       done = λ j z m. omega (arith, t.done j z m);
-      closed = λ p m o d r. go p m o d r (dec_lt (p * maxMoves + m) x);
+      closed = λ p m o d r. go p m o d r (dec_lt (p * max_moves + m) x);
     }
       where
-        go : (p m : ℕ) → p < n → p * maxMoves + m < y → R (nodeAt q p) m → Dec (p * maxMoves + m < x)
+        go : (p m : ℕ) → p < n → p * max_moves + m < y → R (node_at q p) m → Dec (p * max_moves + m < x)
             → FoundBy q n p m
         go p m o d r (yes w) = t.closed p m o w r
         go p m o d r (no w) = absurd (none p m o (omega arith) d r)
 
-    module _ (h k : ℕ) (here : h < n) (small : k < maxMoves) (low : h * maxMoves ≤ x) (high : x ≤ h * maxMoves + k + 1)
-        (only : (m : ℕ) → x ≤ h * maxMoves + m → m ≤ k → R (nodeAt q h) m → m ≡ k) (lows : (v m : ℕ) → R v m → m < maxMoves) where
+    module _ (h k : ℕ) (here : h < n) (small : k < max_moves) (low : h * max_moves ≤ x) (high : x ≤ h * max_moves + k + 1)
+        (only : (m : ℕ) → x ≤ h * max_moves + m → m ≤ k → R (node_at q h) m → m ≡ k) (lows : (v m : ℕ) → R v m → m < max_moves) where
       -- the step at hand, from place h by move k, is the only one that is done now
-      which : (p m : ℕ) → p * maxMoves + m < h * maxMoves + k + 1 → (p * maxMoves + m < x → ⊥) → R (nodeAt q p) m → (p ≡ h) × (m ≡ k)
+      which : (p m : ℕ) → p * max_moves + m < h * max_moves + k + 1 → (p * max_moves + m < x → ⊥) → R (node_at q p) m → (p ≡ h) × (m ≡ k)
       which p m d w r =
-          let s = lows (nodeAt q p) m r in
+          let s = lows (node_at q p) m r in
           let e : p ≡ h = omega arith in
           (e, only m (omega arith) (omega arith) (rw e at r))
 
       -- it leads to a node that is found
-      pub tree-skip : (j : ℕ) → j < n → nodeAt q j ≡ k % maxNodes → Tree R q n (h * maxMoves + k + 1)
-      tree-skip j l is = record {
+      pub tree_skip : (j : ℕ) → j < n → node_at q j ≡ k % max_nodes → Tree R q n (h * max_moves + k + 1)
+      tree_skip j l is = record {
         some = t.some;
         root = t.root;
         falls = t.falls;
         steps = t.steps;
         rises = t.rises;
         done = λ i z m. omega (arith, t.done i z m);
-        closed = λ p m o d r. go p m o d r (dec_lt (p * maxMoves + m) x);
+        closed = λ p m o d r. go p m o d r (dec_lt (p * max_moves + m) x);
       }
         where
-          go : (p m : ℕ) → p < n → p * maxMoves + m < h * maxMoves + k + 1 → R (nodeAt q p) m → Dec (p * maxMoves + m < x)
+          go : (p m : ℕ) → p < n → p * max_moves + m < h * max_moves + k + 1 → R (node_at q p) m → Dec (p * max_moves + m < x)
               → FoundBy q n p m
           go p m o d r (yes w) = t.closed p m o w r
           go p m o d r (no w) =
               let e = which p m d w r in
-              let at : (j ≡ 0) ⊎ (get_or q j 0 ≤ p * maxMoves + m) = first (ℕ_discrete j 0) e.0 e.1 in
-              (j, l, is ∙ ap (λ (i : ℕ). i % maxNodes) (sym e.1), at)
+              let at : (j ≡ 0) ⊎ (get_or q j 0 ≤ p * max_moves + m) = first (ℕ_discrete j 0) e.0 e.1 in
+              (j, l, is ∙ ap (λ (i : ℕ). i % max_nodes) (sym e.1), at)
             where
-              first : Dec (j ≡ 0) → p ≡ h → m ≡ k → (j ≡ 0) ⊎ (get_or q j 0 ≤ p * maxMoves + m)
+              first : Dec (j ≡ 0) → p ≡ h → m ≡ k → (j ≡ 0) ⊎ (get_or q j 0 ≤ p * max_moves + m)
               first (yes z) e f = inl z
               first (no z) e f = inr (omega (arith, t.done j (omega arith) l))
 
       -- it leads to a new one, which stands at the end
-      pub tree-push : R (nodeAt q h) k → ((j : ℕ) → j < n → nodeAt q j ≡ k % maxNodes → ⊥) → n < length q
-          → Tree R (set q n (h * maxMoves + k)) (n + 1) (h * maxMoves + k + 1)
-      tree-push r fresh room = record {
+      pub tree_push : R (node_at q h) k → ((j : ℕ) → j < n → node_at q j ≡ k % max_nodes → ⊥) → n < length q
+          → Tree R (set q n (h * max_moves + k)) (n + 1) (h * max_moves + k + 1)
+      tree_push r fresh room = record {
         some = omega arith;
         root = rw (old 0 t.some) t.root;
         falls = λ j z l. ⊎_elim (λ (o : j < n). rw (old j o) (t.falls j z o)) (λ (e : j ≡ n). rw (e, new) (omega arith)) (below j n l);
-        steps = λ j z l. ⊎_elim (λ (o : j < n). old-step j z o) (λ (e : j ≡ n). rw (e, new) new-step) (below j n l);
+        steps = λ j z l. ⊎_elim (λ (o : j < n). old_step j z o) (λ (e : j ≡ n). rw (e, new) new_step) (below j n l);
         rises = λ i j z l m. ⊎_elim
-            (λ (o : j < n). let i-in : i < n = omega arith in rw (old i i-in, old j o) (t.rises i j z l o))
-            (λ (e : j ≡ n). let i-in : i < n = omega arith in rw (e, old i i-in, new) (new-rises i z i-in))
+            (λ (o : j < n). let i_in : i < n = omega arith in rw (old i i_in, old j o) (t.rises i j z l o))
+            (λ (e : j ≡ n). let i_in : i < n = omega arith in rw (e, old i i_in, new) (new_rises i z i_in))
             (below j n m);
         done = λ j z l. ⊎_elim (λ (o : j < n). rw (old j o) (omega (arith, t.done j z o))) (λ (e : j ≡ n). rw (e, new) (omega arith)) (below j n l);
         closed = λ p m o d s.
-            let p-in : p < n = omega arith in
-            go p m p-in d (rw (old p p-in) at s) (dec_lt (p * maxMoves + m) x);
+            let p_in : p < n = omega arith in
+            go p m p_in d (rw (old p p_in) at s) (dec_lt (p * max_moves + m) x);
       }
         where
-          old : (j : ℕ) → j < n → get_or (set q n (h * maxMoves + k)) j 0 ≡ get_or q j 0
-          old j l = get_or-set_other q n j (h * maxMoves + k) 0 (omega arith)
+          old : (j : ℕ) → j < n → get_or (set q n (h * max_moves + k)) j 0 ≡ get_or q j 0
+          old j l = get_or-set_other q n j (h * max_moves + k) 0 (omega arith)
 
-          new : get_or (set q n (h * maxMoves + k)) n 0 ≡ h * maxMoves + k
-          new = get_or-set_same q n (h * maxMoves + k) 0 room
+          new : get_or (set q n (h * max_moves + k)) n 0 ≡ h * max_moves + k
+          new = get_or-set_same q n (h * max_moves + k) 0 room
 
-          prev-in : (j : ℕ) → 0 < j → j < n → prevAt q j < n
-          prev-in j z l = omega (arith, t.falls j z l)
+          prev_in : (j : ℕ) → 0 < j → j < n → prev_at q j < n
+          prev_in j z l = omega (arith, t.falls j z l)
 
-          old-step : (j : ℕ) → 0 < j → j < n → R (nodeAt (set q n (h * maxMoves + k)) (prevAt (set q n (h * maxMoves + k)) j)) (moveAt (set q n (h * maxMoves + k)) j)
-          old-step j z l = rw (old j l, old (prevAt q j) (prev-in j z l)) (t.steps j z l)
+          old_step : (j : ℕ) → 0 < j → j < n → R (node_at (set q n (h * max_moves + k)) (prev_at (set q n (h * max_moves + k)) j)) (move_at (set q n (h * max_moves + k)) j)
+          old_step j z l = rw (old j l, old (prev_at q j) (prev_in j z l)) (t.steps j z l)
 
-          new-step : R (nodeAt (set q n (h * maxMoves + k)) ((h * maxMoves + k) / maxMoves)) ((h * maxMoves + k) % maxMoves)
-          new-step =
-              let e : (h * maxMoves + k) / maxMoves ≡ h = omega arith in
-              let f : (h * maxMoves + k) % maxMoves ≡ k = omega arith in
+          new_step : R (node_at (set q n (h * max_moves + k)) ((h * max_moves + k) / max_moves)) ((h * max_moves + k) % max_moves)
+          new_step =
+              let e : (h * max_moves + k) / max_moves ≡ h = omega arith in
+              let f : (h * max_moves + k) % max_moves ≡ k = omega arith in
               rw (e, f, old h here) r
 
-          new-rises : (i : ℕ) → 0 < i → i < n → get_or q i 0 < h * maxMoves + k
-          new-rises i z l = go (ℕ_discrete (get_or q i 0) (h * maxMoves + k))
+          new_rises : (i : ℕ) → 0 < i → i < n → get_or q i 0 < h * max_moves + k
+          new_rises i z l = go (ℕ_discrete (get_or q i 0) (h * max_moves + k))
             where
-              go : Dec (get_or q i 0 ≡ h * maxMoves + k) → get_or q i 0 < h * maxMoves + k
+              go : Dec (get_or q i 0 ≡ h * max_moves + k) → get_or q i 0 < h * max_moves + k
               go (yes e) = absurd (fresh i l (omega arith))
               go (no d) = omega (arith, t.done i z l)
 
-          go : (p m : ℕ) → p < n → p * maxMoves + m < h * maxMoves + k + 1 → R (nodeAt q p) m → Dec (p * maxMoves + m < x)
-              → FoundBy (set q n (h * maxMoves + k)) (n + 1) p m
+          go : (p m : ℕ) → p < n → p * max_moves + m < h * max_moves + k + 1 → R (node_at q p) m → Dec (p * max_moves + m < x)
+              → FoundBy (set q n (h * max_moves + k)) (n + 1) p m
           go p m o d s (yes w) =
               let f = t.closed p m o w s in
               let l : f.0 < n = f.1 in

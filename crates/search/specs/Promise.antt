@@ -2,23 +2,23 @@
 -- first move that differs), each with that path read back by its predecessors.
 use Rattle.std.specs.Prelude.{◌≡◌, ◌⊎◌, Bool, true, false, List, [], ◌∷◌, ◌++◌, ℕ, zero, suc, ◌+◌, ◌-◌, ◌%◌, ◌≤◌, ◌<◌, length, get_or}
 use Rattle.search.specs.declared.Searched.{Searched}
-use Rattle.search.specs.Steps.{maxNodes, Moves, IsPath, Earlier, Best, Made}
+use Rattle.search.specs.Steps.{max_nodes, Moves, IsPath, Earlier, Best, Made}
 use Rattle.search.specs.Table.{Rises}
-use Rattle.search.specs.Queue.{nodeAt, prevAt, moveAt, Room, Places}
+use Rattle.search.specs.Queue.{node_at, prev_at, move_at, Room, Places}
 
 -- the path to a place, by its predecessors; the first argument bounds how far it goes back
 unfoldable pub walk : List ℕ → ℕ → ℕ → List ℕ
 walk q zero j = []
 walk q (suc f) zero = []
-walk q (suc f) (suc j) = walk q f (prevAt q (suc j)) ++ (moveAt q (suc j) ∷ [])
+walk q (suc f) (suc j) = walk q f (prev_at q (suc j)) ++ (move_at q (suc j) ∷ [])
 
-abbrev pub pathTo : List ℕ → ℕ → List ℕ
-pathTo q j = walk q j j
+abbrev pub path_to : List ℕ → ℕ → List ℕ
+path_to q j = walk q j j
 
 -- from a place the predecessors lead back to the first
 pub record Back (q : List ℕ) (place : ℕ) : Type 0 where
   pub inside : place < length q
-  pub falls : (j : ℕ) → 0 < j → j ≤ place → prevAt q j < j
+  pub falls : (j : ℕ) → 0 < j → j ≤ place → prev_at q j < j
 
 -- tables to search from a node
 pub record Searchable (steps starts : List ℕ) (from : ℕ) (q places : List ℕ) : Type 0 where
@@ -30,35 +30,35 @@ pub record Searchable (steps starts : List ℕ) (from : ℕ) (q places : List �
 pub record Unindexed (steps starts : List ℕ) (from : ℕ) (q places : List ℕ) : Type 0 where
   pub rises : Rises steps (length steps)
   pub few : length steps < 65536
-  pub nodes : (e : ℕ) → e < length steps → get_or steps e 0 % maxNodes < length places
+  pub nodes : (e : ℕ) → e < length steps → get_or steps e 0 % max_nodes < length places
   pub long : length starts ≡ length places + 1
   pub room : Room q places
   pub start : from < length places
 
 -- b is among the first n of the queue
 abbrev pub Among : List ℕ → ℕ → ℕ → Type 0
-Among q n b = (j : ℕ) × (j < n) × (nodeAt q j ≡ b)
+Among q n b = (j : ℕ) × (j < n) × (node_at q j ≡ b)
 
 -- the last one taken is the target, or nothing is left
 abbrev pub Ends : List ℕ → ℕ → ℕ → ℕ → Bool → Type 0
-Ends q target taken found true = nodeAt q (taken - 1) ≡ target
+Ends q target taken found true = node_at q (taken - 1) ≡ target
 Ends q target taken found false = taken ≡ found
 
 pub record SearchedFrom (R : Moves) (size from target : ℕ) (q places : List ℕ) (r : Searched) : Type 0 where
   -- each node that was taken has its best path
-  pub best : (j : ℕ) → j < r.taken → Best R from (pathTo q j) (nodeAt q j)
+  pub best : (j : ℕ) → j < r.taken → Best R from (path_to q j) (node_at q j)
   -- in the order of these paths
-  pub order : (i j : ℕ) → i < j → j < r.taken → Earlier (pathTo q i) (pathTo q j)
+  pub order : (i j : ℕ) → i < j → j < r.taken → Earlier (path_to q i) (path_to q j)
   -- nothing is missing: a node that has a path is taken, or the target was reached and the path is later than all that were taken
   pub all : (ms : List ℕ) (b : ℕ) → IsPath R from ms b
-      → Among q r.taken b ⊎ ((r.reached ≡ true) × ((j : ℕ) → j < r.taken → Earlier (pathTo q j) ms))
+      → Among q r.taken b ⊎ ((r.reached ≡ true) × ((j : ℕ) → j < r.taken → Earlier (path_to q j) ms))
   pub ends : Ends q target r.taken r.found r.reached
   -- no earlier one is the target
-  pub passed : (j : ℕ) → j < r.taken → nodeAt q j ≡ target → (r.reached ≡ true) × (j + 1 ≡ r.taken)
+  pub passed : (j : ℕ) → j < r.taken → node_at q j ≡ target → (r.reached ≡ true) × (j + 1 ≡ r.taken)
   pub start : (0 < r.taken) × (get_or q 0 0 ≡ from)
   pub count : (r.taken ≤ r.found) × (r.found ≤ size)
   -- the predecessors lead back to the first place
-  pub falls : (j : ℕ) → 0 < j → j < r.found → prevAt q j < j
+  pub falls : (j : ℕ) → 0 < j → j < r.found → prev_at q j < j
   -- where each found node stands
-  pub places-long : length places ≡ size
+  pub places_long : length places ≡ size
   pub seats : Places q places r.found

@@ -1,16 +1,16 @@
 -- The tables of a search under way. The queue has an entry for each found node, in the order of finding: the place of its
 -- predecessor * 16,384 + the move from there. By node: its place plus 1, or 0 while it is not found.
 use Rattle.std.specs.Prelude.{◌≡◌, ◌⊎◌, List, [], ◌∷◌, ℕ, zero, suc, ◌+◌, ◌-◌, ◌*◌, ◌/◌, ◌%◌, ◌≤◌, ◌<◌, length, get_or}
-use Rattle.search.specs.Steps.{maxNodes, maxMoves, Moves}
+use Rattle.search.specs.Steps.{max_nodes, max_moves, Moves}
 
-abbrev pub nodeAt : List ℕ → ℕ → ℕ
-nodeAt q j = get_or q j 0 % maxNodes
+abbrev pub node_at : List ℕ → ℕ → ℕ
+node_at q j = get_or q j 0 % max_nodes
 
-abbrev pub prevAt : List ℕ → ℕ → ℕ
-prevAt q j = get_or q j 0 / maxMoves
+abbrev pub prev_at : List ℕ → ℕ → ℕ
+prev_at q j = get_or q j 0 / max_moves
 
-abbrev pub moveAt : List ℕ → ℕ → ℕ
-moveAt q j = get_or q j 0 % maxMoves
+abbrev pub move_at : List ℕ → ℕ → ℕ
+move_at q j = get_or q j 0 % max_moves
 
 -- how many nodes are not found
 unfoldable pub zeros : List ℕ → ℕ
@@ -20,36 +20,36 @@ zeros (suc x ∷ xs) = zeros xs
 
 -- which nodes are found, and where
 pub record Places (q places : List ℕ) (n : ℕ) : Type 0 where
-  pub seat : (j : ℕ) → j < n → get_or places (nodeAt q j) 0 ≡ j + 1
-  pub inside : (j : ℕ) → j < n → nodeAt q j < length places
+  pub seat : (j : ℕ) → j < n → get_or places (node_at q j) 0 ≡ j + 1
+  pub inside : (j : ℕ) → j < n → node_at q j < length places
   pub low : (v : ℕ) → v < length places → get_or places v 0 ≤ n
-  pub back : (v : ℕ) → v < length places → 0 < get_or places v 0 → nodeAt q (get_or places v 0 - 1) ≡ v
+  pub back : (v : ℕ) → v < length places → 0 < get_or places v 0 → node_at q (get_or places v 0 - 1) ≡ v
 
 -- the node that move m leads to from place p is found, by an entry that is no greater than p * 16,384 + m
 abbrev pub FoundBy : List ℕ → ℕ → ℕ → ℕ → Type 0
-FoundBy q n p m = (j : ℕ) × (j < n) × (nodeAt q j ≡ m % maxNodes) × ((j ≡ 0) ⊎ (get_or q j 0 ≤ p * maxMoves + m))
+FoundBy q n p m = (j : ℕ) × (j < n) × (node_at q j ≡ m % max_nodes) × ((j ≡ 0) ⊎ (get_or q j 0 ≤ p * max_moves + m))
 
 -- every step whose entry would be below x is done: it leads to a found node whose entry is no greater
 pub record Tree (R : Moves) (q : List ℕ) (n x : ℕ) : Type 0 where
   pub some : 0 < n
-  pub root : get_or q 0 0 < maxNodes
-  pub falls : (j : ℕ) → 0 < j → j < n → prevAt q j < j
-  pub steps : (j : ℕ) → 0 < j → j < n → R (nodeAt q (prevAt q j)) (moveAt q j)
+  pub root : get_or q 0 0 < max_nodes
+  pub falls : (j : ℕ) → 0 < j → j < n → prev_at q j < j
+  pub steps : (j : ℕ) → 0 < j → j < n → R (node_at q (prev_at q j)) (move_at q j)
   pub rises : (i j : ℕ) → 0 < i → i < j → j < n → get_or q i 0 < get_or q j 0
   pub done : (j : ℕ) → 0 < j → j < n → get_or q j 0 < x
-  pub closed : (p m : ℕ) → p < n → p * maxMoves + m < x → R (nodeAt q p) m → FoundBy q n p m
+  pub closed : (p m : ℕ) → p < n → p * max_moves + m < x → R (node_at q p) m → FoundBy q n p m
 
 -- there is room for every node
 pub record Room (q places : List ℕ) : Type 0 where
   pub queue : length q ≡ length places
-  pub small : length places ≤ maxNodes
+  pub small : length places ≤ max_nodes
 
 -- n nodes are found, and the steps from the places before h are done
 pub record Searching (R : Moves) (q places : List ℕ) (n h : ℕ) : Type 0 where
   pub room : Room q places
   pub found : n + zeros places ≡ length places
   pub seats : Places q places n
-  pub tree : Tree R q n (h * maxMoves)
+  pub tree : Tree R q n (h * max_moves)
 
 -- what was found stays
 pub record Kept (q : List ℕ) (n : ℕ) (q' : List ℕ) (n' : ℕ) : Type 0 where

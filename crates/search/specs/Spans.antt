@@ -4,13 +4,13 @@ use Rattle.std.specs.Prelude.{cond, List, ℕ, ◌-◌, ◌/◌, ◌%◌, length
 use Rattle.model.specs.Bytes.{Bytes}
 
 -- lengths are numbers below this
-abbrev pub spanLengths : ℕ
-spanLengths = 512
+abbrev pub span_lengths : ℕ
+span_lengths = 512
 
 -- the part that a span stands for: of whichever it begins in
 unfoldable pub spanned : Bytes → Bytes → ℕ → Bytes
-spanned b c s = cond (ltb (s / spanLengths) (length b)) (take (s % spanLengths) (drop (s / spanLengths) b)) (take (s % spanLengths) (drop (s / spanLengths - length b) c))
+spanned b c s = cond (ltb (s / span_lengths) (length b)) (take (s % span_lengths) (drop (s / span_lengths) b)) (take (s % span_lengths) (drop (s / span_lengths - length b) c))
 
 -- the name of a node, by the table of spans
-abbrev pub nameBy : Bytes → Bytes → List ℕ → ℕ → Bytes
-nameBy b c spans v = spanned b c (get_or spans v 0)
+abbrev pub name_by : Bytes → Bytes → List ℕ → ℕ → Bytes
+name_by b c spans v = spanned b c (get_or spans v 0)

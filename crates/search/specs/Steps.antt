@@ -4,12 +4,12 @@
 use Rattle.std.specs.Prelude.{◌≡◌, ◌⊎◌, List, [], ◌∷◌, ℕ, ◌+◌, ◌*◌, ◌%◌, ◌≤◌, ◌<◌, length, get_or}
 
 -- nodes are numbers below this
-abbrev pub maxNodes : ℕ
-maxNodes = 8192
+abbrev pub max_nodes : ℕ
+max_nodes = 8192
 
 -- and moves below this: one to each node by each kind
-abbrev pub maxMoves : ℕ
-maxMoves = 16384
+abbrev pub max_moves : ℕ
+max_moves = 16384
 
 -- ------------------------------------------------------------------ paths
 
@@ -20,7 +20,7 @@ Moves = ℕ → ℕ → Type 0
 -- the moves lead from a to b
 unfoldable pub IsPath : Moves → ℕ → List ℕ → ℕ → Type 0
 IsPath R a [] b = a ≡ b
-IsPath R a (m ∷ ms) b = R a m × IsPath R (m % maxNodes) ms b
+IsPath R a (m ∷ ms) b = R a m × IsPath R (m % max_nodes) ms b
 
 -- the first move that differs counts
 unfoldable pub Before : List ℕ → List ℕ → Type 0
@@ -44,14 +44,14 @@ pub record Best (R : Moves) (a : ℕ) (ms : List ℕ) (b : ℕ) : Type 0 where
 
 -- the step stands in the table
 abbrev pub leads : List ℕ → Moves
-leads steps v m = (m < maxMoves) × ((e : ℕ) × (e < length steps) × (get_or steps e 0 ≡ v * maxMoves + m))
+leads steps v m = (m < max_moves) × ((e : ℕ) × (e < length steps) × (get_or steps e 0 ≡ v * max_moves + m))
 
 -- ascending steps (one may stand twice) between n nodes, and where those of each node begin
 pub record Made (steps starts : List ℕ) (n : ℕ) : Type 0 where
-  pub small : n ≤ maxNodes
+  pub small : n ≤ max_nodes
   pub rises : (e f : ℕ) → e < f → f < length steps → get_or steps e 0 ≤ get_or steps f 0
-  pub nodes : (e : ℕ) → e < length steps → get_or steps e 0 % maxNodes < n
+  pub nodes : (e : ℕ) → e < length steps → get_or steps e 0 % max_nodes < n
   pub long : length starts ≡ n + 1
   pub inside : (v : ℕ) → v ≤ n → get_or starts v 0 ≤ length steps
-  pub below : (v e : ℕ) → v ≤ n → e < get_or starts v 0 → get_or steps e 0 < v * maxMoves
-  pub above : (v e : ℕ) → v ≤ n → get_or starts v 0 ≤ e → e < length steps → v * maxMoves ≤ get_or steps e 0
+  pub below : (v e : ℕ) → v ≤ n → e < get_or starts v 0 → get_or steps e 0 < v * max_moves
+  pub above : (v e : ℕ) → v ≤ n → get_or starts v 0 ≤ e → e < length steps → v * max_moves ≤ get_or steps e 0

@@ -1,6 +1,6 @@
 -- Tables of numbers: written from a place on, two ascending ones as one, and where the steps of each node begin.
 use Rattle.std.specs.Prelude.{◌≡◌, ◌⊎◌, List, ℕ, ◌+◌, ◌*◌, ◌≤◌, ◌<◌, length, get_or}
-use Rattle.search.specs.Steps.{maxMoves}
+use Rattle.search.specs.Steps.{max_moves}
 
 -- the first n ascend, none twice
 abbrev pub Rises : List ℕ → ℕ → Type 0
@@ -17,13 +17,13 @@ pub record Written (before after : List ℕ) (at n : ℕ) (f : ℕ → ℕ) : Ty
   pub kept : (q : ℕ) → q < at → get_or after q 0 ≡ get_or before q 0
 
 -- the numbers of a table from place i on
-abbrev pub restOf : List ℕ → ℕ → ℕ → ℕ
-restOf s i p = get_or s (i + p) 0
+abbrev pub rest_of : List ℕ → ℕ → ℕ → ℕ
+rest_of s i p = get_or s (i + p) 0
 
 -- two ascending tables, with room for both
 pub record Mergeable (a b out : List ℕ) : Type 0 where
-  pub first-rises : Rises a (length a)
-  pub second-rises : Rises b (length b)
+  pub first_rises : Rises a (length a)
+  pub second_rises : Rises b (length b)
   pub room : length a + length b ≤ length out
 
 -- the first n of out ascend and are the numbers of a and b
@@ -37,8 +37,8 @@ pub record Merged (a b out : List ℕ) (n : ℕ) : Type 0 where
 -- the steps of node v begin at place e
 pub record Begins (steps : List ℕ) (v e : ℕ) : Type 0 where
   pub inside : e ≤ length steps
-  pub below : (i : ℕ) → i < e → get_or steps i 0 < v * maxMoves
-  pub above : (i : ℕ) → e ≤ i → i < length steps → v * maxMoves ≤ get_or steps i 0
+  pub below : (i : ℕ) → i < e → get_or steps i 0 < v * max_moves
+  pub above : (i : ℕ) → e ≤ i → i < length steps → v * max_moves ≤ get_or steps i 0
 
 -- so for every node
 abbrev pub Indexed : List ℕ → List ℕ → Type 0

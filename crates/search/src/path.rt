@@ -1,13 +1,13 @@
 // The paths that a queue holds, read back by the predecessors.
 ghost use Rattle.std.specs.Prelude.{◌≡◌, ◌≤◌, length};
-ghost use Rattle.search.specs.Promise.{pathTo, Back};
+ghost use Rattle.search.specs.Promise.{path_to, Back};
 
 use crate::MAX_MOVES;
 
 // How many steps the path to a place has.
 pub fn path_length(queue: &[u32], place: usize) -> usize
     requires { Back queue.now place }
-    ensures { (result ≡ length (pathTo queue.now place)) × (result ≤ place) }
+    ensures { (result ≡ length (path_to queue.now place)) × (result ≤ place) }
 {
     let mut j = place;
     let mut n = 0;

@@ -1,14 +1,14 @@
 // Tables of steps: two ascending ones as one, and where the steps of each node begin.
 ghost use Rattle.std.specs.Prelude.{◌≡◌, ℕ, ◌+◌, ◌-◌, ◌*◌, ◌≤◌, ◌<◌, length, get_or, take, drop};
-ghost use Rattle.search.specs.Steps.{maxMoves};
-ghost use Rattle.search.specs.Table.{Rises, Written, restOf, Mergeable, Merged, Indexed};
+ghost use Rattle.search.specs.Steps.{max_moves};
+ghost use Rattle.search.specs.Table.{Rises, Written, rest_of, Mergeable, Merged, Indexed};
 
 use crate::MAX_MOVES;
 
 // Writes the rest of a table, from place i on, behind the first n numbers of another; gives how many numbers that makes.
 fn append_rest(s: &[u32], i: usize, out: &mut [u32], n: usize) -> usize
     requires { (i ≤ length s.now) × (n + (length s.now - i) ≤ length out.old) }
-    ensures { Written out.old out.new n (length s.now - i) (restOf s.now i) × (result ≡ n + (length s.now - i)) }
+    ensures { Written out.old out.new n (length s.now - i) (rest_of s.now i) × (result ≡ n + (length s.now - i)) }
 {
     let count = s.len() - i;
     let mut p = 0;
@@ -59,8 +59,8 @@ pub fn merge_rows(rows: &[u32], m: usize, out: &mut [u32]) -> usize
 
 // Where the steps of node v begin, from place e on.
 fn seek(steps: &[u32], v: usize, e: usize) -> usize
-    requires { (e ≤ length steps.now) × ((i : ℕ) → i < e → get_or steps.now i 0 < v * maxMoves) }
-    ensures { (result ≤ length steps.now) × ((i : ℕ) → i < result → get_or steps.now i 0 < v * maxMoves) × (result < length steps.now → v * maxMoves ≤ get_or steps.now result 0) }
+    requires { (e ≤ length steps.now) × ((i : ℕ) → i < e → get_or steps.now i 0 < v * max_moves) }
+    ensures { (result ≤ length steps.now) × ((i : ℕ) → i < result → get_or steps.now i 0 < v * max_moves) × (result < length steps.now → v * max_moves ≤ get_or steps.now result 0) }
 {
     let mut i = e;
     while i < steps.len() {

@@ -22,8 +22,8 @@ module _ {A : Type 0} (f : A → A) (d : A) where
   set_front (suc i) (x ∷ xs) h = ap (◌∷◌ (f x)) (set_front i xs (omega arith))
 
   -- a turn of the loop, as the code has it
-  pub front-turn : (i : ℕ) (a l : List A) (v : A) → i < length a → l ≡ front i a → v ≡ f (get_or l i d) → set l i v ≡ front (i + 1) a
-  front-turn i a l v h e w = rw (w, e, get_d_front i a h, add-one i) (set_front i a h)
+  pub front_turn : (i : ℕ) (a l : List A) (v : A) → i < length a → l ≡ front i a → v ≡ f (get_or l i d) → set l i v ≡ front (i + 1) a
+  front_turn i a l v h e w = rw (w, e, get_d_front i a h, add-one i) (set_front i a h)
 
-  pub take-front : (i : ℕ) (a : List A) → i ≤ length a → take i (front i a) ≡ map f (take i a)
-  take-front i a h = take_at (map f (take i a)) (drop i a) i (rw (length-map (take i a) f) (length-take-le i a h))
+  pub take_front : (i : ℕ) (a : List A) → i ≤ length a → take i (front i a) ≡ map f (take i a)
+  take_front i a h = take_at (map f (take i a)) (drop i a) i (rw (length-map (take i a) f) (length-take-le i a h))

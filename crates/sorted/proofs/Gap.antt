@@ -13,22 +13,22 @@ unfoldable pub moved : List ℕ → ℕ → ℕ → List ℕ
 moved b m i = take (i + 1) b ++ slice i m b ++ drop (m + 1) b
 
 module _ (b : List ℕ) (m : ℕ) (fits : m < length b) where
-  pub moved-start : moved b m m ≡ b
+  pub moved_start : moved b m m ≡ b
   unfolding moved
-  moved-start = rw (slice_empty m b, append-nil) (take-append-drop (m + 1) b)
+  moved_start = rw (slice_empty m b, append-nil) (take-append-drop (m + 1) b)
 
-  moved-get : (i j : ℕ) → i ≤ m → j < i + 1 → get_or (moved b m i) j 0 ≡ get_or b j 0
+  moved_get : (i j : ℕ) → i ≤ m → j < i + 1 → get_or (moved b m i) j 0 ≡ get_or b j 0
   unfolding moved
-  moved-get i j h l =
+  moved_get i j h l =
       let t = length-take-le (i + 1) b (omega arith) in
       let a : j < length (take (i + 1) b) = omega arith in
       let d : j < length (take (i + 1) b ++ slice i m b) = rw length-append (omega arith) in
       rw (get_or-append (take (i + 1) b ++ slice i m b) (drop (m + 1) b) 0 j d, get_or-append (take (i + 1) b) (slice i m b) 0 j a)
       (get_or-take (i + 1) b j 0 l)
 
-  moved-step : (i : ℕ) → i < m → set (moved b m (i + 1)) (i + 1) (get_or b i 0) ≡ moved b m i
+  moved_step : (i : ℕ) → i < m → set (moved b m (i + 1)) (i + 1) (get_or b i 0) ≡ moved b m i
   unfolding moved
-  moved-step i h =
+  moved_step i h =
       let e : i + 1 + 1 ≡ suc (i + 1) = omega arith in
       let f : i + 1 ≡ suc i = omega arith in
       rw (e, take-suc b (i + 1) 0 (omega arith), f, slice-cons i m b 0 h (omega arith))
@@ -36,10 +36,10 @@ module _ (b : List ℕ) (m : ℕ) (fits : m < length b) where
       (set_at (take (suc i) b) (get_or b (suc i) 0) (slice (suc i) m b ++ drop (m + 1) b) (get_or b i 0) (suc i) (length-take-le (suc i) b (omega arith))))
 
   -- a turn of the loop, as the code has it
-  pub moved-turn : (i : ℕ) (l : List ℕ) → 0 < i → i ≤ m → l ≡ moved b m i → set l (i - 1 + 1) (get_or l (i - 1) 0) ≡ moved b m (i - 1)
-  moved-turn i l h g e =
+  pub moved_turn : (i : ℕ) (l : List ℕ) → 0 < i → i ≤ m → l ≡ moved b m i → set l (i - 1 + 1) (get_or l (i - 1) 0) ≡ moved b m (i - 1)
+  moved_turn i l h g e =
       let d : i - 1 + 1 ≡ i = omega arith in
-      rw (e, moved-get i (i - 1) g (omega arith), d) (rw d at (moved-step (i - 1) (omega arith)))
+      rw (e, moved_get i (i - 1) g (omega arith), d) (rw d at (moved_step (i - 1) (omega arith)))
 
   -- the store into the gap
   pub moved_store : (p v : ℕ) → p ≤ m → set (moved b m p) p v ≡ spliced p v (take m b) ++ drop (m + 1) b

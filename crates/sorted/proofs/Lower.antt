@@ -10,32 +10,32 @@ use lib.Dec.{leb}
 use borrow.Author.Tests.{leb-true, leb-false}
 use Rattle.model.specs.declared.Order.{Order}
 use Rattle.model.specs.declared.Order.TheVariants.{Less, Equal, Greater}
-use Rattle.model.specs.Bytes.{byOrder}
+use Rattle.model.specs.Bytes.{by_order}
 use Rattle.model.specs.Record.{insert}
 use Rattle.model.specs.Statements.{Ascending}
 use Rattle.text.proofs.Order.{StrictOrder}
-use Rattle.text.proofs.Ascending.{ascending-tail, ascending-below, insert-present}
-use Rattle.text.proofs.Places.{getD-member, ascending-getD}
+use Rattle.text.proofs.Ascending.{ascending_tail, ascending_below, insert_present}
+use Rattle.text.proofs.Places.{get_or_member, ascending_get_or}
 use Rattle.sorted.specs.Sorted.{lower, spliced}
 
 module _ {A : Type 0} (cmp : A → A → Order) (x : A) where
-  pub lower-le : (xs : List A) → lower cmp x xs ≤ length xs
+  pub lower_le : (xs : List A) → lower cmp x xs ≤ length xs
   unfolding lower
-  lower-le [] = omega arith
-  lower-le (y ∷ ys) = go (cmp y x) (lower-le ys)
+  lower_le [] = omega arith
+  lower_le (y ∷ ys) = go (cmp y x) (lower_le ys)
     where
-      go : (o : Order) → lower cmp x ys ≤ length ys → byOrder o (suc (lower cmp x ys)) 0 0 ≤ length (y ∷ ys)
+      go : (o : Order) → lower cmp x ys ≤ length ys → by_order o (suc (lower cmp x ys)) 0 0 ≤ length (y ∷ ys)
       go Less h = omega arith
       go Equal h = omega arith
       go Greater h = omega arith
 
   -- those before the place are less
-  pub before-less : (d : A) (xs : List A) (i : ℕ) → i < lower cmp x xs → cmp (get_or xs i d) x ≡ Less
+  pub before_less : (d : A) (xs : List A) (i : ℕ) → i < lower cmp x xs → cmp (get_or xs i d) x ≡ Less
   unfolding lower
-  before-less d [] i h = absurd (omega arith)
-  before-less d (y ∷ ys) i h = go (cmp y x) refl i h (before-less d ys)
+  before_less d [] i h = absurd (omega arith)
+  before_less d (y ∷ ys) i h = go (cmp y x) refl i h (before_less d ys)
     where
-      go : (o : Order) → cmp y x ≡ o → (i : ℕ) → i < byOrder o (suc (lower cmp x ys)) 0 0
+      go : (o : Order) → cmp y x ≡ o → (i : ℕ) → i < by_order o (suc (lower cmp x ys)) 0 0
           → ((j : ℕ) → j < lower cmp x ys → cmp (get_or ys j d) x ≡ Less) → cmp (get_or (y ∷ ys) i d) x ≡ Less
       go Less e zero h rest = e
       go Less e (suc j) h rest = rest j (omega arith)
@@ -44,48 +44,48 @@ module _ {A : Type 0} (cmp : A → A → Order) (x : A) where
 
 module _ {A : Type 0} {cmp : A → A → Order} (ord : StrictOrder cmp) (d x : A) where
   -- one that is less stands before the place
-  pub less-before : (xs : List A) (i : ℕ) → Ascending cmp xs → i < length xs → cmp (get_or xs i d) x ≡ Less → i < lower cmp x xs
+  pub less_before : (xs : List A) (i : ℕ) → Ascending cmp xs → i < length xs → cmp (get_or xs i d) x ≡ Less → i < lower cmp x xs
   unfolding lower
-  less-before [] i a h e = absurd (omega arith)
-  less-before (y ∷ ys) zero a h e = rw e (omega arith)
-  less-before (y ∷ ys) (suc i) a h e =
-      let m = ascending-below ord y ys a (get_or ys i d) (getD-member d ys i (omega arith)) in
-      let r = less-before ys i (ascending-tail cmp y ys a) (omega arith) e in
+  less_before [] i a h e = absurd (omega arith)
+  less_before (y ∷ ys) zero a h e = rw e (omega arith)
+  less_before (y ∷ ys) (suc i) a h e =
+      let m = ascending_below ord y ys a (get_or ys i d) (get_or_member d ys i (omega arith)) in
+      let r = less_before ys i (ascending_tail cmp y ys a) (omega arith) e in
       rw (ord.trans y (get_or ys i d) x m e) (omega arith)
 
   -- one that is not stands behind it
-  pub not-before : (xs : List A) (i : ℕ) → (cmp (get_or xs i d) x ≡ Less → ⊥) → lower cmp x xs ≤ i
-  not-before xs i n = go (leb (lower cmp x xs) i) refl
+  pub not_before : (xs : List A) (i : ℕ) → (cmp (get_or xs i d) x ≡ Less → ⊥) → lower cmp x xs ≤ i
+  not_before xs i n = go (leb (lower cmp x xs) i) refl
     where
       go : (t : Bool) → leb (lower cmp x xs) i ≡ t → lower cmp x xs ≤ i
       go true e = leb-true (lower cmp x xs) i e
-      go false e = absurd (n (before-less cmp x d xs i (leb-false (lower cmp x xs) i e)))
+      go false e = absurd (n (before_less cmp x d xs i (leb-false (lower cmp x xs) i e)))
 
   -- the place of one that is there
-  pub lower-at : (xs : List A) (i : ℕ) → Ascending cmp xs → i < length xs → cmp (get_or xs i d) x ≡ Equal → lower cmp x xs ≡ i
-  lower-at xs i a h e =
-      let upper = not-before xs i (λ l. let z : ◌≡◌ {A = ℕ} 0 1 = cc in omega arith) in
+  pub lower_at : (xs : List A) (i : ℕ) → Ascending cmp xs → i < length xs → cmp (get_or xs i d) x ≡ Equal → lower cmp x xs ≡ i
+  lower_at xs i a h e =
+      let upper = not_before xs i (λ l. let z : ◌≡◌ {A = ℕ} 0 1 = cc in omega arith) in
       go i upper h e
     where
       go : (j : ℕ) → lower cmp x xs ≤ j → j < length xs → cmp (get_or xs j d) x ≡ Equal → lower cmp x xs ≡ j
       go zero u h e = omega arith
       go (suc j) u h e =
-          let l = rw (ord.same (get_or xs (suc j) d) x e) at (ascending-getD ord d xs j (suc j) a (omega arith) h) in
-          let b = less-before xs j a (omega arith) l in
+          let l = rw (ord.same (get_or xs (suc j) d) x e) at (ascending_get_or ord d xs j (suc j) a (omega arith) h) in
+          let b = less_before xs j a (omega arith) l in
           omega arith
 
   -- put in at the place
-  pub insert-new : (xs : List A) → Ascending cmp xs → (lower cmp x xs < length xs → get_or xs (lower cmp x xs) d ≡ x → ⊥)
+  pub insert_new : (xs : List A) → Ascending cmp xs → (lower cmp x xs < length xs → get_or xs (lower cmp x xs) d ≡ x → ⊥)
       → insert cmp x xs ≡ spliced (lower cmp x xs) x xs
   unfolding lower insert spliced
-  insert-new [] a n = refl
-  insert-new (y ∷ ys) a n = go (cmp x y) refl n (insert-new ys (ascending-tail cmp y ys a))
+  insert_new [] a n = refl
+  insert_new (y ∷ ys) a n = go (cmp x y) refl n (insert_new ys (ascending_tail cmp y ys a))
     where
       go : (o : Order) → cmp x y ≡ o
-          → (byOrder (cmp y x) (suc (lower cmp x ys)) 0 0 < length (y ∷ ys) → get_or (y ∷ ys) (byOrder (cmp y x) (suc (lower cmp x ys)) 0 0) d ≡ x → ⊥)
+          → (by_order (cmp y x) (suc (lower cmp x ys)) 0 0 < length (y ∷ ys) → get_or (y ∷ ys) (by_order (cmp y x) (suc (lower cmp x ys)) 0 0) d ≡ x → ⊥)
           → ((lower cmp x ys < length ys → get_or ys (lower cmp x ys) d ≡ x → ⊥) → insert cmp x ys ≡ take (lower cmp x ys) ys ++ (x ∷ drop (lower cmp x ys) ys))
-          → byOrder o (x ∷ y ∷ ys) (y ∷ ys) (y ∷ insert cmp x ys)
-          ≡ take (byOrder (cmp y x) (suc (lower cmp x ys)) 0 0) (y ∷ ys) ++ (x ∷ drop (byOrder (cmp y x) (suc (lower cmp x ys)) 0 0) (y ∷ ys))
+          → by_order o (x ∷ y ∷ ys) (y ∷ ys) (y ∷ insert cmp x ys)
+          ≡ take (by_order (cmp y x) (suc (lower cmp x ys)) 0 0) (y ∷ ys) ++ (x ∷ drop (by_order (cmp y x) (suc (lower cmp x ys)) 0 0) (y ∷ ys))
       go Less e n rest = rw (ord.flip x y, e)
       go Equal e n rest = absurd ((rw (ord.flip x y, e) at n) (omega arith) (sym (ord.same x y e)))
       go Greater e n rest =
@@ -93,5 +93,5 @@ module _ {A : Type 0} {cmp : A → A → Order} (ord : StrictOrder cmp) (d x : A
           rw (ord.flip x y, e) (ap (◌∷◌ y) (rest (λ h. m (omega arith))))
 
   -- one that is there is not put in again
-  pub insert-there : (xs : List A) (i : ℕ) → Ascending cmp xs → i < length xs → get_or xs i d ≡ x → insert cmp x xs ≡ xs
-  insert-there xs i a h e = insert-present ord x xs a (Memᴰ.cast (sym e) (getD-member d xs i h))
+  pub insert_there : (xs : List A) (i : ℕ) → Ascending cmp xs → i < length xs → get_or xs i d ≡ x → insert cmp x xs ≡ xs
+  insert_there xs i a h e = insert_present ord x xs a (Memᴰ.cast (sym e) (get_or_member d xs i h))

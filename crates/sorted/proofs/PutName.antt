@@ -12,60 +12,60 @@ use lib.Dec.{ltb}
 use borrow.Author.Tests.{ltb-true, lt-ltb, le-ltb}
 use Rattle.model.specs.declared.Order.TheVariants.{Equal, Greater}
 use Rattle.model.specs.Statements.{Ascending}
-use Rattle.model.specs.Bytes.{Bytes, compareBytes, sameBytes, put}
-use Rattle.model.specs.Record.{insert, anyLong, maxNameBytes}
-use Rattle.record.specs.Coded.{nameIn, pairIn}
-use Rattle.record.proofs.Words.{under-weaken}
-use Rattle.text.proofs.Order.{bytes-order, sameBytes-true}
-use Rattle.text.proofs.Ascending.{insert-ascending}
-use Rattle.text.proofs.Put.{length-put}
-use Rattle.text.proofs.Tests.{either-false}
+use Rattle.model.specs.Bytes.{Bytes, compare_bytes, same_bytes, put}
+use Rattle.model.specs.Record.{insert, any_long, max_name_bytes}
+use Rattle.record.specs.Coded.{name_in, pair_in}
+use Rattle.record.proofs.Words.{under_weaken}
+use Rattle.text.proofs.Order.{bytes_order, same_bytes_true}
+use Rattle.text.proofs.Ascending.{insert_ascending}
+use Rattle.text.proofs.Put.{length_put}
+use Rattle.text.proofs.Tests.{either_false}
 use Rattle.sorted.specs.Sorted.{lower, spliced, renumbered}
-use Rattle.sorted.specs.Tables.{Tables, tables, bodyIn, namesIn, holdsAt, tableNames, graphIn, pairsIn, KeptPairs, Kept, NameRoom, NamePut}
-use Rattle.sorted.proofs.Lower.{lower-le, insert-new, insert-there}
-use Rattle.sorted.proofs.Splice.{length-spliced, spliced-member, map-spliced, length-bodies-spliced, spliced-zero, spliced-suc}
-use Rattle.sorted.proofs.Front.{take-front}
-use Rattle.sorted.proofs.Renumber.{renumbered-ascending, renumbered-under, renumbered-pairs}
-use Rattle.sorted.proofs.Search.{length-names, name-at, name-equal}
-use Rattle.sorted.proofs.Bodies.{bodies-old, body_new, first_of, second-of}
+use Rattle.sorted.specs.Tables.{Tables, tables, body_in, names_in, holds_at, table_names, graph_in, pairs_in, KeptPairs, Kept, NameRoom, NamePut}
+use Rattle.sorted.proofs.Lower.{lower_le, insert_new, insert_there}
+use Rattle.sorted.proofs.Splice.{length_spliced, spliced_member, map_spliced, length_bodies_spliced, spliced_zero, spliced_suc}
+use Rattle.sorted.proofs.Front.{take_front}
+use Rattle.sorted.proofs.Renumber.{renumbered_ascending, renumbered_under, renumbered_pairs}
+use Rattle.sorted.proofs.Search.{length_names, name_at, name_equal}
+use Rattle.sorted.proofs.Bodies.{bodies_old, body_new, first_of, second_of}
 
 -- what stands at a place, from the test
-pub holds-true : (ns : List Bytes) (p : ℕ) (name : Bytes) → holdsAt ns p name ≡ true → (p < length ns) × (nameIn ns p ≡ name)
-holds-true ns p name e = go (ltb p (length ns)) refl e
+pub holds_true : (ns : List Bytes) (p : ℕ) (name : Bytes) → holds_at ns p name ≡ true → (p < length ns) × (name_in ns p ≡ name)
+holds_true ns p name e = go (ltb p (length ns)) refl e
   where
-    go : (t : Bool) → ltb p (length ns) ≡ t → cond t (sameBytes (nameIn ns p) name) false ≡ true → (p < length ns) × (nameIn ns p ≡ name)
-    go true d e = (ltb-true p (length ns) d, (sameBytes-true (nameIn ns p) name).0 e)
+    go : (t : Bool) → ltb p (length ns) ≡ t → cond t (same_bytes (name_in ns p) name) false ≡ true → (p < length ns) × (name_in ns p ≡ name)
+    go true d e = (ltb-true p (length ns) d, (same_bytes_true (name_in ns p) name).0 e)
     go false d e = absurd (false≢true e)
 
-pub holds-false : (ns : List Bytes) (p : ℕ) (name : Bytes) → holdsAt ns p name ≡ false → p < length ns → nameIn ns p ≡ name → ⊥
-holds-false ns p name e h d = false≢true (sym e ∙ rw (lt-ltb p (length ns) h) ((sameBytes-true (nameIn ns p) name).1 d))
+pub holds_false : (ns : List Bytes) (p : ℕ) (name : Bytes) → holds_at ns p name ≡ false → p < length ns → name_in ns p ≡ name → ⊥
+holds_false ns p name e h d = false≢true (sym e ∙ rw (lt-ltb p (length ns) h) ((same_bytes_true (name_in ns p) name).1 d))
 
 -- a name that compares as greater is another, and as equal the same
-pub greater-differs : (x y : Bytes) → compareBytes x y ≡ Greater → sameBytes x y ≡ false
-greater-differs x y e = go (sameBytes x y) refl
+pub greater_differs : (x y : Bytes) → compare_bytes x y ≡ Greater → same_bytes x y ≡ false
+greater_differs x y e = go (same_bytes x y) refl
   where
-    go : (t : Bool) → sameBytes x y ≡ t → t ≡ false
+    go : (t : Bool) → same_bytes x y ≡ t → t ≡ false
     go false d = refl
-    go true d = let z : ◌≡◌ {A = ℕ} 0 1 = cc (rw ((sameBytes-true x y).0 d) at e, bytes-order.refl-equal y) in absurd (omega arith)
+    go true d = let z : ◌≡◌ {A = ℕ} 0 1 = cc (rw ((same_bytes_true x y).0 d) at e, bytes_order.refl_equal y) in absurd (omega arith)
 
-pub equal-same : (x y : Bytes) → compareBytes x y ≡ Equal → sameBytes x y ≡ true
-equal-same x y e = (sameBytes-true x y).1 (bytes-order.same x y e)
+pub equal_same : (x y : Bytes) → compare_bytes x y ≡ Equal → same_bytes x y ≡ true
+equal_same x y e = (same_bytes_true x y).1 (bytes_order.same x y e)
 
 -- a name that is found stands at its place
-pub found-place : (name pool : Bytes) (refs : List ℕ) (n p : ℕ) → n ≤ length refs → Ascending compareBytes (namesIn pool n refs) → holdsAt (namesIn pool n refs) p name ≡ true
-    → (p ≡ lower compareBytes name (namesIn pool n refs)) × (p < n)
-found-place name pool refs n p fits asc e =
-    let l = length-names pool n refs fits in
-    let (h, d) = holds-true (namesIn pool n refs) p name e in
+pub found_place : (name pool : Bytes) (refs : List ℕ) (n p : ℕ) → n ≤ length refs → Ascending compare_bytes (names_in pool n refs) → holds_at (names_in pool n refs) p name ≡ true
+    → (p ≡ lower compare_bytes name (names_in pool n refs)) × (p < n)
+found_place name pool refs n p fits asc e =
+    let l = length_names pool n refs fits in
+    let (h, d) = holds_true (names_in pool n refs) p name e in
     let k : p < n = omega arith in
-    (sym (name-equal name pool refs n p fits k asc (rw (sym (name-at pool n refs p k) ∙ d) (bytes-order.refl-equal name))), k)
+    (sym (name_equal name pool refs n p fits k asc (rw (sym (name_at pool n refs p k) ∙ d) (bytes_order.refl_equal name))), k)
 
-pub same-put : (t : Tables) (name : Bytes) (p : ℕ) → Kept t → p ≡ lower compareBytes name (tableNames t) → holdsAt (tableNames t) p name ≡ true → NamePut t name t p
-same-put t name p k e h =
-    let (l, d) = holds-true (tableNames t) p name h in
+pub same_put : (t : Tables) (name : Bytes) (p : ℕ) → Kept t → p ≡ lower compare_bytes name (table_names t) → holds_at (table_names t) p name ≡ true → NamePut t name t p
+same_put t name p k e h =
+    let (l, d) = holds_true (table_names t) p name h in
     record {
       kept = k;
-      names = sym (insert-there bytes-order [] name (tableNames t) p k.order l d);
+      names = sym (insert_there bytes_order [] name (table_names t) p k.order l d);
       graph = refl;
       place = e;
       count = omega arith;
@@ -74,12 +74,12 @@ same-put t name p k e h =
       translation = refl;
     }
 
-any-spliced : (name : Bytes) (p : ℕ) (ns : List Bytes) → p ≤ length ns → length name ≤ maxNameBytes → anyLong ns ≡ false → anyLong (spliced p name ns) ≡ false
-any-spliced name zero ns h s a = rw (spliced-zero name ns, le-ltb maxNameBytes (length name) s) a
-any-spliced name (suc p) [] h s a = absurd (omega arith)
-any-spliced name (suc p) (n ∷ ns) h s a =
-    let (b, c) = either-false (ltb maxNameBytes (length n)) (anyLong ns) a in
-    rw (spliced-suc p name n ns, b) (any-spliced name p ns (omega arith) s c)
+any_spliced : (name : Bytes) (p : ℕ) (ns : List Bytes) → p ≤ length ns → length name ≤ max_name_bytes → any_long ns ≡ false → any_long (spliced p name ns) ≡ false
+any_spliced name zero ns h s a = rw (spliced_zero name ns, le-ltb max_name_bytes (length name) s) a
+any_spliced name (suc p) [] h s a = absurd (omega arith)
+any_spliced name (suc p) (n ∷ ns) h s a =
+    let (b, c) = either_false (ltb max_name_bytes (length n)) (any_long ns) a in
+    rw (spliced_suc p name n ns, b) (any_spliced name p ns (omega arith) s c)
 
 -- the pairs of one kind, after a name came in at place p
 module _ (n k p : ℕ) (xs : List ℕ) (few : n < 65535) (pairs : KeptPairs n k xs) where
@@ -87,20 +87,20 @@ module _ (n k p : ℕ) (xs : List ℕ) (few : n < 65535) (pairs : KeptPairs n k 
   after = map (renumbered p) (take k xs) ++ drop k xs
 
   taken : take k after ≡ map (renumbered p) (take k xs)
-  taken = take-front (renumbered p) 0 k xs pairs.within
+  taken = take_front (renumbered p) 0 k xs pairs.within
 
-  kept-renumbered : KeptPairs (n + 1) k after
-  kept-renumbered = record {
-    order = rw taken (renumbered-ascending p (take k xs) (under-weaken n 65535 _ (omega arith) pairs.under) pairs.order);
-    under = rw taken (renumbered-under p n (take k xs) (omega arith) pairs.under);
+  kept_renumbered : KeptPairs (n + 1) k after
+  kept_renumbered = record {
+    order = rw taken (renumbered_ascending p (take k xs) (under_weaken n 65535 _ (omega arith) pairs.under) pairs.order);
+    under = rw taken (renumbered_under p n (take k xs) (omega arith) pairs.under);
     within = let w = pairs.within in simp (length-append, length-map, length-take-le k xs w, length-drop) (omega arith);
   }
 
-  shown-renumbered : (name : Bytes) (ns : List Bytes) → p ≤ length ns → map (pairIn (spliced p name ns)) (pairsIn k after) ≡ map (pairIn ns) (pairsIn k xs)
-  shown-renumbered name ns h = rw taken (renumbered-pairs name p n ns (take k xs) h (omega arith) pairs.under)
+  shown_renumbered : (name : Bytes) (ns : List Bytes) → p ≤ length ns → map (pair_in (spliced p name ns)) (pairs_in k after) ≡ map (pair_in ns) (pairs_in k xs)
+  shown_renumbered name ns h = rw taken (renumbered_pairs name p n ns (take k xs) h (omega arith) pairs.under)
 
-module _ (t : Tables) (name : Bytes) (k : Kept t) (r : NameRoom t name) (p : ℕ) (place : p ≡ lower compareBytes name (tableNames t))
-    (new : holdsAt (tableNames t) p name ≡ false) where
+module _ (t : Tables) (name : Bytes) (k : Kept t) (r : NameRoom t name) (p : ℕ) (place : p ≡ lower compare_bytes name (table_names t))
+    (new : holds_at (table_names t) p name ≡ false) where
   abbrev n : ℕ
   n = t.sizes.names
 
@@ -121,90 +121,90 @@ module _ (t : Tables) (name : Bytes) (k : Kept t) (r : NameRoom t name) (p : ℕ
       (put t.pool at name)
       (record { names = n + 1; bytes = at + length name; subgraph = t.sizes.subgraph; translation = t.sizes.translation })
 
-  taken-refs : length (take n t.refs) ≡ n
-  taken-refs = length-take-le n t.refs k.count
+  taken_refs : length (take n t.refs) ≡ n
+  taken_refs = length-take-le n t.refs k.count
 
-  p-le : p ≤ n
-  p-le = let l = length-names t.pool n t.refs k.count in omega (arith, lower-le compareBytes name (tableNames t))
+  p_le : p ≤ n
+  p_le = let l = length_names t.pool n t.refs k.count in omega (arith, lower_le compare_bytes name (table_names t))
 
-  first-refs : take (n + 1) refs ≡ spliced p ref (take n t.refs)
-  first-refs =
-      let l = taken-refs in
-      let h = p-le in
+  first_refs : take (n + 1) refs ≡ spliced p ref (take n t.refs)
+  first_refs =
+      let l = taken_refs in
+      let h = p_le in
       take_at (spliced p ref (take n t.refs)) (drop (n + 1) t.refs) (n + 1)
-      (length-spliced ref p (take n t.refs) (omega arith) ∙ omega arith)
+      (length_spliced ref p (take n t.refs) (omega arith) ∙ omega arith)
 
-  grown-names : tableNames grown ≡ spliced p name (tableNames t)
-  grown-names =
-      let l = taken-refs in
-      let h = p-le in
+  grown_names : table_names grown ≡ spliced p name (table_names t)
+  grown_names =
+      let l = taken_refs in
+      let h = p_le in
       rw (
-        first-refs,
-        map-spliced ref (bodyIn (put t.pool at name)) p (take n t.refs) (omega arith),
+        first_refs,
+        map_spliced ref (body_in (put t.pool at name)) p (take n t.refs) (omega arith),
         body_new t.pool name at k.room (omega (arith, r.short)),
-        bodies-old t.pool name at (take n t.refs) k.room k.within,
+        bodies_old t.pool name at (take n t.refs) k.room k.within,
       )
 
-  grown-insert : tableNames grown ≡ insert compareBytes name (tableNames t)
-  grown-insert =
-      grown-names
+  grown_insert : table_names grown ≡ insert compare_bytes name (table_names t)
+  grown_insert =
+      grown_names
       ∙ rw place
-      (sym (insert-new bytes-order [] name (tableNames t) k.order (rw place at (holds-false (tableNames t) p name new))))
+      (sym (insert_new bytes_order [] name (table_names t) k.order (rw place at (holds_false (table_names t) p name new))))
 
-  p-length : p ≤ length (tableNames t)
-  p-length = rw (length-names t.pool n t.refs k.count) p-le
+  p_length : p ≤ length (table_names t)
+  p_length = rw (length_names t.pool n t.refs k.count) p_le
 
-  length-refs : length refs ≡ length t.refs
-  length-refs =
-      let l = taken-refs in
-      let h = p-le in
+  length_refs : length refs ≡ length t.refs
+  length_refs =
+      let l = taken_refs in
+      let h = p_le in
       let c = r.count in
-      simp (length-append, length-spliced ref p (take n t.refs) (omega arith), length-drop) (omega arith)
+      simp (length-append, length_spliced ref p (take n t.refs) (omega arith), length-drop) (omega arith)
 
-  length-pool : length (put t.pool at name) ≡ length t.pool
-  length-pool = length-put t.pool at name r.room
+  length_pool : length (put t.pool at name) ≡ length t.pool
+  length_pool = length_put t.pool at name r.room
 
-  grown-within : (x : ℕ) → Memᴰ x (take (n + 1) refs) → x / 65536 + x % 65536 ≤ at + length name
-  grown-within x m =
-      let l = taken-refs in
-      let h = p-le in
+  grown_within : (x : ℕ) → Memᴰ x (take (n + 1) refs) → x / 65536 + x % 65536 ≤ at + length name
+  grown_within x m =
+      let l = taken_refs in
+      let h = p_le in
       let s = r.short in
       ⊎_elim
-      (λ (e : x ≡ ref). rw (e, first_of at (length name) (omega arith), second-of at (length name) (omega arith)) (omega arith))
+      (λ (e : x ≡ ref). rw (e, first_of at (length name) (omega arith), second_of at (length name) (omega arith)) (omega arith))
       (λ (o : Memᴰ x (take n t.refs)). omega (arith, k.within x o))
-      (spliced-member ref p (take n t.refs) x (omega arith) (rw first-refs at m))
+      (spliced_member ref p (take n t.refs) x (omega arith) (rw first_refs at m))
 
   few : n < 65535
   few = omega (arith, k.few, r.count)
 
-  grown-kept : Kept grown
-  grown-kept = record {
-    order = rw grown-insert (insert-ascending bytes-order name (tableNames t) k.order);
-    short = rw grown-names (any-spliced name p (tableNames t) p-length r.short k.short);
-    within = grown-within;
-    total = rw (grown-names, length-bodies-spliced name p (tableNames t) p-length, ← k.total);
-    count = rw length-refs (omega (arith, r.count));
-    room = rw length-pool r.room;
-    few = rw length-refs k.few;
-    small = rw length-pool k.small;
-    subgraph = kept-renumbered n t.sizes.subgraph p t.subs few k.subgraph;
-    translation = kept-renumbered n t.sizes.translation p t.trans few k.translation;
+  grown_kept : Kept grown
+  grown_kept = record {
+    order = rw grown_insert (insert_ascending bytes_order name (table_names t) k.order);
+    short = rw grown_names (any_spliced name p (table_names t) p_length r.short k.short);
+    within = grown_within;
+    total = rw (grown_names, length_bodies_spliced name p (table_names t) p_length, ← k.total);
+    count = rw length_refs (omega (arith, r.count));
+    room = rw length_pool r.room;
+    few = rw length_refs k.few;
+    small = rw length_pool k.small;
+    subgraph = kept_renumbered n t.sizes.subgraph p t.subs few k.subgraph;
+    translation = kept_renumbered n t.sizes.translation p t.trans few k.translation;
   }
 
-  grown-graph : graphIn grown ≡ graphIn t
-  grown-graph =
-      rw grown-names
+  grown_graph : graph_in grown ≡ graph_in t
+  grown_graph =
+      rw grown_names
       (λ i. record {
         name = none;
-        subgraph = shown-renumbered n t.sizes.subgraph p t.subs few k.subgraph name (tableNames t) p-length i;
-        translation = shown-renumbered n t.sizes.translation p t.trans few k.translation name (tableNames t) p-length i;
+        subgraph = shown_renumbered n t.sizes.subgraph p t.subs few k.subgraph name (table_names t) p_length i;
+        translation = shown_renumbered n t.sizes.translation p t.trans few k.translation name (table_names t) p_length i;
       })
 
-  grown-put : NamePut t name grown p
-  grown-put = record {
-    kept = grown-kept;
-    names = grown-insert;
-    graph = grown-graph;
+  grown_put : NamePut t name grown p
+  grown_put = record {
+    kept = grown_kept;
+    names = grown_insert;
+    graph = grown_graph;
     place = place;
     count = omega arith;
     bytes = omega arith;
@@ -213,8 +213,8 @@ module _ (t : Tables) (name : Bytes) (k : Kept t) (r : NameRoom t name) (p : ℕ
   }
 
   -- as the code leaves the tables
-  pub new-put : (refs' subs' trans' : List ℕ) (pool' : Bytes) (end : ℕ) → refs' ≡ grown.refs → subs' ≡ grown.subs → trans' ≡ grown.trans → pool' ≡ grown.pool
+  pub new_put : (refs' subs' trans' : List ℕ) (pool' : Bytes) (end : ℕ) → refs' ≡ grown.refs → subs' ≡ grown.subs → trans' ≡ grown.trans → pool' ≡ grown.pool
       → end ≡ at + length name
       → NamePut t name
       (tables refs' subs' trans' pool' (record { names = n + 1; bytes = end; subgraph = t.sizes.subgraph; translation = t.sizes.translation })) p
-  new-put refs' subs' trans' pool' end a b c d e = rw (a, b, c, d, e) grown-put
+  new_put refs' subs' trans' pool' end a b c d e = rw (a, b, c, d, e) grown_put

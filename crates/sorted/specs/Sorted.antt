@@ -1,12 +1,12 @@
 -- Ascending lists by place: where an element stands or would stand, and putting one in there. And places after a name came in.
 use Rattle.std.specs.Prelude.{cond, List, [], ◌∷◌, ◌++◌, ℕ, suc, ◌+◌, ◌*◌, ◌/◌, ◌%◌, take, drop, leb, eqb}
 use Rattle.model.specs.declared.Order.{Order}
-use Rattle.model.specs.Bytes.{byOrder}
+use Rattle.model.specs.Bytes.{by_order}
 
 -- how many elements, from the front, are less than x
 unfoldable pub lower : {A : Type 0} → (A → A → Order) → A → List A → ℕ
 lower cmp x [] = 0
-lower cmp x (y ∷ ys) = byOrder (cmp y x) (suc (lower cmp x ys)) 0 0
+lower cmp x (y ∷ ys) = by_order (cmp y x) (suc (lower cmp x ys)) 0 0
 
 -- x at place p, what stood there and behind it one place on
 unfoldable pub spliced : {A : Type 0} → ℕ → A → List A → List A
@@ -21,5 +21,5 @@ unfoldable pub renumbered : ℕ → ℕ → ℕ
 renumbered p x = x + 65536 * above p (x / 65536) + above p (x % 65536)
 
 -- a place after a name came in at place p, if that made the names more
-abbrev pub placeAfter : ℕ → ℕ → ℕ → ℕ → ℕ
-placeAfter before now p x = cond (eqb before now) x (x + above p x)
+abbrev pub place_after : ℕ → ℕ → ℕ → ℕ → ℕ
+place_after before now p x = cond (eqb before now) x (x + above p x)

@@ -1,11 +1,11 @@
 // Ascending numbers in the first part of a slice: finding a place, putting one in, and renumbering.
 ghost use Rattle.std.specs.Prelude.{◌≡◌, ◌++◌, map, ◌+◌, ◌≤◌, ◌<◌, length, take, drop};
-ghost use Rattle.model.specs.Bytes.{compareNumbers};
+ghost use Rattle.model.specs.Bytes.{compare_numbers};
 ghost use Rattle.model.specs.Record.{insert};
 ghost use Rattle.model.specs.Statements.{Ascending};
 ghost use Rattle.record.specs.Test.{Under};
 ghost use Rattle.sorted.specs.Sorted.{lower, spliced, above, renumbered};
-ghost use Rattle.sorted.specs.Tables.{pairsIn};
+ghost use Rattle.sorted.specs.Tables.{pairs_in};
 
 // Puts v at place p of the first n, and those from there on one place on.
 pub(crate) fn insert_at(a: &mut [u32], n: usize, p: usize, v: u32)
@@ -29,7 +29,7 @@ fn step(p: u32, q: u32) -> u32
 
 // The places of the first n pairs after a name came in at place p.
 pub(crate) fn renumber(a: &mut [u32], n: usize, p: u32)
-    requires { (n ≤ length a.old) × Under 65535 (pairsIn n a.old) }
+    requires { (n ≤ length a.old) × Under 65535 (pairs_in n a.old) }
     ensures { a.new ≡ map (renumbered p) (take n a.old) ++ drop n a.old }
 {
     let mut i = 0;
@@ -42,8 +42,8 @@ pub(crate) fn renumber(a: &mut [u32], n: usize, p: u32)
 
 // How many of the first n, which ascend, are less than v.
 fn place(a: &[u32], n: usize, v: u32) -> usize
-    requires { (n ≤ length a.now) × Ascending compareNumbers (take n a.now) }
-    ensures { (result ≡ lower compareNumbers v (take n a.now)) × (result ≤ n) }
+    requires { (n ≤ length a.now) × Ascending compare_numbers (take n a.now) }
+    ensures { (result ≡ lower compare_numbers v (take n a.now)) × (result ≤ n) }
 {
     let mut lo = 0;
     let mut hi = n;
@@ -60,8 +60,8 @@ fn place(a: &[u32], n: usize, v: u32) -> usize
 
 // Puts a number into the first n, which ascend, unless it is there, and gives how many there are then.
 pub(crate) fn put_number(a: &mut [u32], n: usize, v: u32) -> usize
-    requires { (n < length a.old) × Ascending compareNumbers (take n a.old) }
-    ensures { (result ≤ n + 1) × (take result a.new ≡ insert compareNumbers v (take n a.old)) }
+    requires { (n < length a.old) × Ascending compare_numbers (take n a.old) }
+    ensures { (result ≤ n + 1) × (take result a.new ≡ insert compare_numbers v (take n a.old)) }
 {
     let p = place(a, n, v);
     if p < n && a[p] == v {

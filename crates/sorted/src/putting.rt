@@ -1,9 +1,9 @@
 // The working tables: names as ascending numbers for bodies in a pool, pairs of either kind as ascending numbers of two places.
 ghost use Rattle.std.specs.Prelude.{◌≡◌, ◌≤◌, ◌<◌, length};
-ghost use Rattle.model.specs.Bytes.{compareBytes};
+ghost use Rattle.model.specs.Bytes.{compare_bytes};
 ghost use Rattle.model.specs.Statements.{Ascending};
-ghost use Rattle.sorted.specs.Sorted.{lower, placeAfter};
-ghost use Rattle.sorted.specs.Tables.{tables, bodyIn, namesIn, holdsAt, Kept, NameRoom, PairRoom, NamePut, PairPut, Seeks};
+ghost use Rattle.sorted.specs.Sorted.{lower, place_after};
+ghost use Rattle.sorted.specs.Tables.{tables, body_in, names_in, holds_at, Kept, NameRoom, PairRoom, NamePut, PairPut, Seeks};
 
 use crate::numbers::{insert_at, put_number, renumber};
 use model::{Kind, Order};
@@ -33,15 +33,15 @@ pub struct Sought {
 
 // The body that a number of the table of names stands for.
 pub fn body(pool: &[u8], r: u32) -> &[u8]
-    ensures { result.now ≡ bodyIn pool.now r }
+    ensures { result.now ≡ body_in pool.now r }
 {
     text::part(pool, (r / 65536) as usize, (r % 65536) as usize)
 }
 
 // Looks for a name among the n names, which ascend.
 fn seek(refs: &[u32], pool: &[u8], n: usize, name: &[u8]) -> Sought
-    requires { (n ≤ length refs.now) × Ascending compareBytes (namesIn pool.now n refs.now) }
-    ensures { Seeks (namesIn pool.now n refs.now) n name.now result }
+    requires { (n ≤ length refs.now) × Ascending compare_bytes (names_in pool.now n refs.now) }
+    ensures { Seeks (names_in pool.now n refs.now) n name.now result }
 {
     let mut lo = 0;
     let mut hi = n;
@@ -66,8 +66,8 @@ fn seek(refs: &[u32], pool: &[u8], n: usize, name: &[u8]) -> Sought
 
 // How many of the n names, which ascend, are less than `name`.
 pub fn name_place(refs: &[u32], pool: &[u8], n: usize, name: &[u8]) -> usize
-    requires { (n ≤ length refs.now) × Ascending compareBytes (namesIn pool.now n refs.now) }
-    ensures { (result ≡ lower compareBytes name.now (namesIn pool.now n refs.now)) × (result ≤ n) }
+    requires { (n ≤ length refs.now) × Ascending compare_bytes (names_in pool.now n refs.now) }
+    ensures { (result ≡ lower compare_bytes name.now (names_in pool.now n refs.now)) × (result ≤ n) }
 {
     seek(refs, pool, n, name).place
 }
@@ -75,7 +75,7 @@ pub fn name_place(refs: &[u32], pool: &[u8], n: usize, name: &[u8]) -> usize
 // Whether `name` stands at place p of the n names.
 pub fn is_at(refs: &[u32], pool: &[u8], n: usize, p: usize, name: &[u8]) -> bool
     requires { n ≤ length refs.now }
-    ensures { result ≡ holdsAt (namesIn pool.now n refs.now) p name.now }
+    ensures { result ≡ holds_at (names_in pool.now n refs.now) p name.now }
 {
     if n <= p {
         return false;
@@ -85,8 +85,8 @@ pub fn is_at(refs: &[u32], pool: &[u8], n: usize, p: usize, name: &[u8]) -> bool
 
 // Looks for a name among the n names, which ascend, at one place first.
 fn seek_near(refs: &[u32], pool: &[u8], n: usize, near: usize, name: &[u8]) -> Sought
-    requires { (n ≤ length refs.now) × Ascending compareBytes (namesIn pool.now n refs.now) }
-    ensures { Seeks (namesIn pool.now n refs.now) n name.now result }
+    requires { (n ≤ length refs.now) × Ascending compare_bytes (names_in pool.now n refs.now) }
+    ensures { Seeks (names_in pool.now n refs.now) n name.now result }
 {
     if is_at(refs, pool, n, near, name) {
         return Sought {
@@ -139,7 +139,7 @@ pub fn put_name(
 // The place x after a name was put in at place p, if that made the names more.
 fn moved_place(x: usize, p: usize, before: usize, now: usize) -> usize
     requires { x < 65536 }
-    ensures { result ≡ placeAfter before now p x }
+    ensures { result ≡ place_after before now p x }
 {
     if before == now {
         return x;

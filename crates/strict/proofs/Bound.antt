@@ -8,40 +8,40 @@ use lib.Dec.{eqb}
 use lib.ListN.{length, take}
 use Rattle.model.specs.declared.Strictness.TheVariants.{Faulty}
 use Rattle.model.specs.Text.{text}
-use Rattle.model.specs.Bytes.{Bytes, sameBytes, consHead, split}
-use Rattle.model.specs.Strict.{fineField, hasTag, strictFields, strictParts, strict}
+use Rattle.model.specs.Bytes.{Bytes, same_bytes, cons_head, split}
+use Rattle.model.specs.Strict.{fine_field, has_tag, strict_fields, strict_parts, strict}
 
 same_number : (m n : ℕ) → Faulty m ≡ Faulty n → m ≡ n
 same_number m n e = cc
 
-fields-bound : (i : ℕ) (seen fs : List Bytes) (n : ℕ) → strictFields i seen fs ≡ Faulty n → n < i + length fs
-unfolding strictFields
-fields-bound i seen [] n e = let z : ◌≡◌ {A = ℕ} 0 1 = cc in absurd (omega arith)
-fields-bound i seen (f ∷ fs) n e = go (fineField f && not (hasTag (take 2 f) seen)) refl (fields-bound (suc i) (take 2 f ∷ seen) fs n)
+fields_bound : (i : ℕ) (seen fs : List Bytes) (n : ℕ) → strict_fields i seen fs ≡ Faulty n → n < i + length fs
+unfolding strict_fields
+fields_bound i seen [] n e = let z : ◌≡◌ {A = ℕ} 0 1 = cc in absurd (omega arith)
+fields_bound i seen (f ∷ fs) n e = go (fine_field f && not (has_tag (take 2 f) seen)) refl (fields_bound (suc i) (take 2 f ∷ seen) fs n)
   where
-    go : (t : Bool) → (fineField f && not (hasTag (take 2 f) seen)) ≡ t
-        → (strictFields (suc i) (take 2 f ∷ seen) fs ≡ Faulty n → n < suc i + length fs) → n < i + suc (length fs)
+    go : (t : Bool) → (fine_field f && not (has_tag (take 2 f) seen)) ≡ t
+        → (strict_fields (suc i) (take 2 f ∷ seen) fs ≡ Faulty n → n < suc i + length fs) → n < i + suc (length fs)
     go true d rest = let h = rest (sym (rw d) ∙ e) in omega arith
     go false d rest = let h = same_number i n (sym (rw d) ∙ e) in omega arith
 
-split-length : (sep : ℕ) (s : Bytes) → length (split sep s) ≤ length s + 1
+split_length : (sep : ℕ) (s : Bytes) → length (split sep s) ≤ length s + 1
 unfolding split
-split-length sep [] = omega arith
-split-length sep (x ∷ xs) = go (eqb x sep) (split sep xs) (split-length sep xs)
+split_length sep [] = omega arith
+split_length sep (x ∷ xs) = go (eqb x sep) (split sep xs) (split_length sep xs)
   where
-    go : (t : Bool) (ws : List Bytes) → length ws ≤ length xs + 1 → length (cond t ([] ∷ ws) (consHead x ws)) ≤ suc (length xs) + 1
+    go : (t : Bool) (ws : List Bytes) → length ws ≤ length xs + 1 → length (cond t ([] ∷ ws) (cons_head x ws)) ≤ suc (length xs) + 1
     go true ws h = omega arith
     go false [] h = omega arith
     go false (w ∷ ws) h = omega arith
 
-parts-bound : (ws : List Bytes) (n : ℕ) → strictParts ws ≡ Faulty n → n ≤ length ws
-parts-bound [] n e = let h = same_number 0 n e in omega arith
-parts-bound (h ∷ fs) n e = go (sameBytes h (text "H")) refl
+parts_bound : (ws : List Bytes) (n : ℕ) → strict_parts ws ≡ Faulty n → n ≤ length ws
+parts_bound [] n e = let h = same_number 0 n e in omega arith
+parts_bound (h ∷ fs) n e = go (same_bytes h (text "H")) refl
   where
-    go : (t : Bool) → sameBytes h (text "H") ≡ t → n ≤ suc (length fs)
-    go true d = let l = fields-bound 1 [] fs n (sym (rw d) ∙ e) in omega arith
+    go : (t : Bool) → same_bytes h (text "H") ≡ t → n ≤ suc (length fs)
+    go true d = let l = fields_bound 1 [] fs n (sym (rw d) ∙ e) in omega arith
     go false d = let z = same_number 0 n (sym (rw d) ∙ e) in omega arith
 
-pub strict-bound : (line : Bytes) (n : ℕ) → strict line ≡ Faulty n → n ≤ length line + 1
+pub strict_bound : (line : Bytes) (n : ℕ) → strict line ≡ Faulty n → n ≤ length line + 1
 unfolding strict
-strict-bound line n e = omega (arith, parts-bound (split 9 line) n e, split-length 9 line)
+strict_bound line n e = omega (arith, parts_bound (split 9 line) n e, split_length 9 line)

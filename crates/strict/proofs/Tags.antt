@@ -9,86 +9,86 @@ use lib.Dec.{leb, eqb}
 use lib.ListN.{length, get_or, take, set, replicate, length-set, get_or-replicate}
 use lib.Seq.{get_or-set_same, get_or-set_other}
 use borrow.Author.Tests.{leb-true, lt-ltb, le-ltb}
-use Rattle.model.specs.Bytes.{Bytes, sameBytes}
-use Rattle.model.specs.Strict.{range, letter, hasTag, fineField}
+use Rattle.model.specs.Bytes.{Bytes, same_bytes}
+use Rattle.model.specs.Strict.{range, letter, has_tag, fine_field}
 use Rattle.text.proofs.Tests.{both_true, either_true}
-use Rattle.text.proofs.Order.{sameBytes-true}
-use Rattle.strict.specs.Tag.{letterPlace, tagPlace, fieldPlace}
+use Rattle.text.proofs.Order.{same_bytes_true}
+use Rattle.strict.specs.Tag.{letter_place, tag_place, field_place}
 
 -- the place of a letter, large or small, tells the letter
 abbrev pub Placed : ℕ → ℕ → Type 0
 Placed x p = ((p < 26) × (x ≡ p + 65)) ⊎ ((26 ≤ p) × (p < 52) × (x ≡ p + 71))
 
-pub letter-placed : (x : ℕ) → letter x ≡ true → Placed x (letterPlace x)
-letter-placed x e = ⊎_elim large small ((either_true (range 65 90 x) (range 97 122 x)).0 e)
+pub letter_placed : (x : ℕ) → letter x ≡ true → Placed x (letter_place x)
+letter_placed x e = ⊎_elim large small ((either_true (range 65 90 x) (range 97 122 x)).0 e)
   where
-    large : range 65 90 x ≡ true → Placed x (letterPlace x)
+    large : range 65 90 x ≡ true → Placed x (letter_place x)
     large h =
         let p = both_true (leb 65 x) (leb x 90) h in
         let l = leb-true 65 x p.0 in
         let u = leb-true x 90 p.1 in
         inl (rw (lt-ltb x 97 (omega arith)) (omega arith))
 
-    small : range 97 122 x ≡ true → Placed x (letterPlace x)
+    small : range 97 122 x ≡ true → Placed x (letter_place x)
     small h =
         let p = both_true (leb 97 x) (leb x 122) h in
         let l = leb-true 97 x p.0 in
         let u = leb-true x 122 p.1 in
         inr (rw (le-ltb x 97 l) (omega arith))
 
-pub place-below : (x p : ℕ) → Placed x p → p < 52
-place-below x p = ⊎_elim (λ h. omega arith) (λ h. h.1)
+pub place_below : (x p : ℕ) → Placed x p → p < 52
+place_below x p = ⊎_elim (λ h. omega arith) (λ h. h.1)
 
-same-letter : (x y p q : ℕ) → Placed x p → Placed y q → p ≡ q → x ≡ y
-same-letter x y p q a b e =
+same_letter : (x y p q : ℕ) → Placed x p → Placed y q → p ≡ q → x ≡ y
+same_letter x y p q a b e =
     ⊎_elim (λ u. ⊎_elim (λ v. omega arith) (λ v. absurd (omega arith)) b) (λ u. ⊎_elim (λ v. absurd (omega arith)) (λ v. omega arith) b) a
 
 module _ (x y : ℕ) (lx : letter x ≡ true) (ly : letter y ≡ true) where
-  pub tag_below : tagPlace x y < 2704
-  tag_below = omega (arith, place-below x (letterPlace x) (letter-placed x lx), place-below y (letterPlace y) (letter-placed y ly))
+  pub tag_below : tag_place x y < 2704
+  tag_below = omega (arith, place_below x (letter_place x) (letter_placed x lx), place_below y (letter_place y) (letter_placed y ly))
 
   -- two tags at one place are the same
-  same_tag : (u v : ℕ) → letter u ≡ true → letter v ≡ true → tagPlace x y ≡ tagPlace u v → (x ∷ y ∷ []) ≡ (u ∷ v ∷ [])
+  same_tag : (u v : ℕ) → letter u ≡ true → letter v ≡ true → tag_place x y ≡ tag_place u v → (x ∷ y ∷ []) ≡ (u ∷ v ∷ [])
   same_tag u v lu lv e =
-      let p = letter-placed x lx in
-      let q = letter-placed y ly in
-      let r = letter-placed u lu in
-      let s = letter-placed v lv in
-      let py = place-below y (letterPlace y) q in
-      let pv = place-below v (letterPlace v) s in
-      let f : x ≡ u = same-letter x u (letterPlace x) (letterPlace u) p r (omega arith) in
-      let g : y ≡ v = same-letter y v (letterPlace y) (letterPlace v) q s (omega arith) in
+      let p = letter_placed x lx in
+      let q = letter_placed y ly in
+      let r = letter_placed u lu in
+      let s = letter_placed v lv in
+      let py = place_below y (letter_place y) q in
+      let pv = place_below v (letter_place v) s in
+      let f : x ≡ u = same_letter x u (letter_place x) (letter_place u) p r (omega arith) in
+      let g : y ≡ v = same_letter y v (letter_place y) (letter_place v) q s (omega arith) in
       cc
 
 -- the table tells of each tag of two letters whether it is one of `tags`
 pub record Marked (seen : Bytes) (tags : List Bytes) : Type 0 where
   pub whole : length seen ≡ 2704
-  pub entry : (x y : ℕ) → letter x ≡ true → letter y ≡ true → get_or seen (tagPlace x y) 0 ≡ cond (hasTag (x ∷ y ∷ []) tags) 1 0
+  pub entry : (x y : ℕ) → letter x ≡ true → letter y ≡ true → get_or seen (tag_place x y) 0 ≡ cond (has_tag (x ∷ y ∷ []) tags) 1 0
 
-pub marked-none : (seen : Bytes) → seen ≡ replicate 2704 0 → Marked seen []
-marked-none seen e = record {
+pub marked_none : (seen : Bytes) → seen ≡ replicate 2704 0 → Marked seen []
+marked_none seen e = record {
   whole = ap length e;
-  entry = λ x y lx ly. rw e (get_or-replicate 2704 (tagPlace x y) 0 0 (tag_below x y lx ly));
+  entry = λ x y lx ly. rw e (get_or-replicate 2704 (tag_place x y) 0 0 (tag_below x y lx ly));
 }
 
 -- one tag more
 pub marked_more : (seen : Bytes) (tags : List Bytes) (x y : ℕ) → letter x ≡ true → letter y ≡ true → Marked seen tags
-    → Marked (set seen (tagPlace x y) 1) ((x ∷ y ∷ []) ∷ tags)
+    → Marked (set seen (tag_place x y) 1) ((x ∷ y ∷ []) ∷ tags)
 marked_more seen tags x y lx ly m = record {
-  whole = length-set seen (tagPlace x y) 1 ∙ m.whole;
-  entry = λ u v lu lv. go u v lu lv (sameBytes (u ∷ v ∷ []) (x ∷ y ∷ [])) refl;
+  whole = length-set seen (tag_place x y) 1 ∙ m.whole;
+  entry = λ u v lu lv. go u v lu lv (same_bytes (u ∷ v ∷ []) (x ∷ y ∷ [])) refl;
 }
   where
-    go : (u v : ℕ) → letter u ≡ true → letter v ≡ true → (t : Bool) → sameBytes (u ∷ v ∷ []) (x ∷ y ∷ []) ≡ t
-        → get_or (set seen (tagPlace x y) 1) (tagPlace u v) 0 ≡ cond (t || hasTag (u ∷ v ∷ []) tags) 1 0
+    go : (u v : ℕ) → letter u ≡ true → letter v ≡ true → (t : Bool) → same_bytes (u ∷ v ∷ []) (x ∷ y ∷ []) ≡ t
+        → get_or (set seen (tag_place x y) 1) (tag_place u v) 0 ≡ cond (t || has_tag (u ∷ v ∷ []) tags) 1 0
     go u v lu lv true e =
-        let same = (sameBytes-true (u ∷ v ∷ []) (x ∷ y ∷ [])).0 e in
+        let same = (same_bytes_true (u ∷ v ∷ []) (x ∷ y ∷ [])).0 e in
         let p : u ≡ x = cc in
         let q : v ≡ y = cc in
-        rw (p, q) (get_or-set_same seen (tagPlace x y) 1 0 (rw m.whole (tag_below x y lx ly)))
+        rw (p, q) (get_or-set_same seen (tag_place x y) 1 0 (rw m.whole (tag_below x y lx ly)))
     go u v lu lv false e =
-        get_or-set_other seen (tagPlace x y) (tagPlace u v) 1 0
-        (λ p. false≢true (sym e ∙ (sameBytes-true (u ∷ v ∷ []) (x ∷ y ∷ [])).1 (same_tag u v lu lv x y lx ly p)))
+        get_or-set_other seen (tag_place x y) (tag_place u v) 1 0
+        (λ p. false≢true (sym e ∙ (same_bytes_true (u ∷ v ∷ []) (x ∷ y ∷ [])).1 (same_tag u v lu lv x y lx ly p)))
         ∙ m.entry u v lu lv
 
 -- what a typed field begins with
@@ -97,9 +97,9 @@ pub record Begins (f : Bytes) : Type 0 where
   pub first : letter (get_or f 0 0) ≡ true
   pub second : letter (get_or f 1 0) ≡ true
 
-pub fine-begins : (f : Bytes) → fineField f ≡ true → Begins f
-unfolding fineField
-fine-begins f e =
+pub fine_begins : (f : Bytes) → fine_field f ≡ true → Begins f
+unfolding fine_field
+fine_begins f e =
     let p = both_true _ _ e in
     let q = both_true _ _ p.0 in
     let r = both_true _ _ q.0 in
@@ -113,22 +113,22 @@ tag_of (x ∷ []) h = absurd (omega arith)
 tag_of (x ∷ y ∷ f) h = refl
 
 -- a typed field whose tag the table does not have has a new tag
-pub new-tag : (f seen : Bytes) (tags : List Bytes) → Marked seen tags
-    → fineField f && eqb (get_or seen (fieldPlace f) 0) 0 ≡ fineField f && not (hasTag (take 2 f) tags)
-new-tag f seen tags m = go (fineField f) refl
+pub new_tag : (f seen : Bytes) (tags : List Bytes) → Marked seen tags
+    → fine_field f && eqb (get_or seen (field_place f) 0) 0 ≡ fine_field f && not (has_tag (take 2 f) tags)
+new_tag f seen tags m = go (fine_field f) refl
   where
     unmarked : (t : Bool) → eqb (cond t 1 0) 0 ≡ not t
     unmarked true = refl
     unmarked false = refl
 
-    go : (t : Bool) → fineField f ≡ t → t && eqb (get_or seen (fieldPlace f) 0) 0 ≡ t && not (hasTag (take 2 f) tags)
+    go : (t : Bool) → fine_field f ≡ t → t && eqb (get_or seen (field_place f) 0) 0 ≡ t && not (has_tag (take 2 f) tags)
     go true e =
-        let b = fine-begins f e in
-        rw (m.entry (get_or f 0 0) (get_or f 1 0) b.first b.second, tag_of f b.long) (unmarked (hasTag (get_or f 0 0 ∷ get_or f 1 0 ∷ []) tags))
+        let b = fine_begins f e in
+        rw (m.entry (get_or f 0 0) (get_or f 1 0) b.first b.second, tag_of f b.long) (unmarked (has_tag (get_or f 0 0 ∷ get_or f 1 0 ∷ []) tags))
     go false e = refl
 
 -- the table after a field with a new tag
-pub marked-field : (f seen : Bytes) (tags : List Bytes) → fineField f ≡ true → Marked seen tags → Marked (set seen (fieldPlace f) 1) (take 2 f ∷ tags)
-marked-field f seen tags e m =
-    let b = fine-begins f e in
+pub marked_field : (f seen : Bytes) (tags : List Bytes) → fine_field f ≡ true → Marked seen tags → Marked (set seen (field_place f) 1) (take 2 f ∷ tags)
+marked_field f seen tags e m =
+    let b = fine_begins f e in
     rw (tag_of f b.long) (marked_more seen tags (get_or f 0 0) (get_or f 1 0) b.first b.second m)

@@ -11,13 +11,13 @@ use lib.Seq.{take_all}
 use borrow.Author.Tests.{lt-ltb, le-leb, ne_eqb}
 use Rattle.model.specs.Text.{text}
 use Rattle.model.specs.Bytes.{Bytes}
-use Rattle.model.specs.Strict.{Class, Regex, never, epsilon, one, seq, alt, plus, oneOf, integer, float, digit, hexLetter, printable, nullable, after, matches, valueOf}
-use Rattle.strict.specs.Class.{isOneOf, all}
+use Rattle.model.specs.Strict.{Class, Regex, never, epsilon, one, seq, alt, plus, one_of, integer, float, digit, hex_letter, printable, nullable, after, matches, value_of}
+use Rattle.strict.specs.Class.{is_one_of, all}
 use Rattle.strict.specs.Number.{run}
-use Rattle.strict.specs.Value.{runClass}
+use Rattle.strict.specs.Value.{run_class}
 use Rattle.strict.specs.declared.number.Number.TheVariants.{Float, Integer}
-use Rattle.strict.proofs.Sequences.{never-fails, seq_end, alt-or, seq-alt, seq-plus, seq-one, seq-oneOf}
-use Rattle.strict.proofs.Numbers.{item, items-step, run-left}
+use Rattle.strict.proofs.Sequences.{never_fails, seq_end, alt_or, seq_alt, seq_plus, seq_one, seq_one_of}
+use Rattle.strict.proofs.Numbers.{item, items_step, run_left}
 
 -- a part that goes to the end
 pub part_to_end : (n : ℕ) (v : Bytes) → take (length v - n) (drop n v) ≡ drop n v
@@ -34,15 +34,15 @@ one_byte c (x ∷ []) e = go (c x)
     go false = refl
 one_byte c (x ∷ y ∷ v) e = absurd (omega arith)
 
-pub not-one-byte : (c : Class) (v : Bytes) → (length v ≡ 1 → ⊥) → matches (one c) v ≡ false
+pub not_one_byte : (c : Class) (v : Bytes) → (length v ≡ 1 → ⊥) → matches (one c) v ≡ false
 unfolding matches nullable after
-not-one-byte c [] n = refl
-not-one-byte c (x ∷ []) n = absurd (n refl)
-not-one-byte c (x ∷ y ∷ v) n = go (c x)
+not_one_byte c [] n = refl
+not_one_byte c (x ∷ []) n = absurd (n refl)
+not_one_byte c (x ∷ y ∷ v) n = go (c x)
   where
     go : (t : Bool) → matches (after y (cond t epsilon never)) v ≡ false
-    go true = never-fails v
-    go false = never-fails v
+    go true = never_fails v
+    go false = never_fails v
 
 -- p matches one byte, of the class c, and what follows is r's
 abbrev IsByte : Regex → Class → Type 0
@@ -51,66 +51,66 @@ IsByte p c = (r : Regex) → (matches (seq p r) [] ≡ false) × ((x : ℕ) (s :
 -- one or more bytes of a class
 module _ (p : Regex) (c : Class) (byte : IsByte p c) where
   -- after one byte: the end, or more of them
-  or-more : (s : Bytes) → matches epsilon s || (ltb 0 (length s) && all c s) ≡ all c s
+  or_more : (s : Bytes) → matches epsilon s || (ltb 0 (length s) && all c s) ≡ all c s
   unfolding matches nullable after
-  or-more [] = refl
-  or-more (x ∷ s) = rw (never-fails s, lt-ltb 0 (suc (length s)) (omega arith))
+  or_more [] = refl
+  or_more (x ∷ s) = rw (never_fails s, lt-ltb 0 (suc (length s)) (omega arith))
 
   from : (s : Bytes) → matches (seq (plus p) epsilon) s ≡ ltb 0 (length s) && all c s
-  from [] = seq-plus p epsilon [] ∙ (byte (alt epsilon (seq (plus p) epsilon))).0
+  from [] = seq_plus p epsilon [] ∙ (byte (alt epsilon (seq (plus p) epsilon))).0
   from (x ∷ s) =
-      seq-plus p epsilon (x ∷ s)
+      seq_plus p epsilon (x ∷ s)
       ∙ (byte (alt epsilon (seq (plus p) epsilon))).1 x s
-      ∙ rw (alt-or epsilon (seq (plus p) epsilon) s, from s, lt-ltb 0 (suc (length s)) (omega arith), or-more s)
+      ∙ rw (alt_or epsilon (seq (plus p) epsilon) s, from s, lt-ltb 0 (suc (length s)) (omega arith), or_more s)
 
-  pub run-test : (s : Bytes) → matches (plus p) s ≡ ltb 0 (length s) && all c s
-  run-test s = sym (seq_end (plus p) s) ∙ from s
+  pub run_test : (s : Bytes) → matches (plus p) s ≡ ltb 0 (length s) && all c s
+  run_test s = sym (seq_end (plus p) s) ∙ from s
 
 pub one_class : (c : Class) → IsByte (one c) c
 unfolding matches nullable
-one_class c r = (refl, seq-one c r)
+one_class c r = (refl, seq_one c r)
 
-pub two-classes : (c d : Class) → IsByte (alt (one c) (one d)) (λ x. c x || d x)
+pub two_classes : (c d : Class) → IsByte (alt (one c) (one d)) (λ x. c x || d x)
 unfolding matches nullable
-two-classes c d r = (
+two_classes c d r = (
   refl,
   λ x s.
-      seq-alt (one c) (one d) r (x ∷ s) ∙ rw (seq-one c r x s, seq-one d r x s) (sym (and-or_distrib_right (c x) (d x) (matches r s))),
+      seq_alt (one c) (one d) r (x ∷ s) ∙ rw (seq_one c r x s, seq_one d r x s) (sym (and-or_distrib_right (c x) (d x) (matches r s))),
 )
 
 -- a number by itself
-pub integer-test : (v : Bytes) → run false Integer v ≡ matches integer v
-integer-test v = run-left false Integer v ∙ seq_end integer v
+pub integer_test : (v : Bytes) → run false Integer v ≡ matches integer v
+integer_test v = run_left false Integer v ∙ seq_end integer v
 
 pub float_test : (v : Bytes) → run false Float v ≡ matches float v
-float_test v = run-left false Float v ∙ seq_end float v
+float_test v = run_left false Float v ∙ seq_end float v
 
 -- a letter of a number's width, then the items
-pub list-test : (v : Bytes)
-    → matches (seq (oneOf (text "cCsSiIf")) (plus item)) v
-    ≡ leb 2 (length v) && isOneOf (text "cCsSiIf") (get_or v 0 0) && eqb 44 (get_or v 1 0) && run true Float (drop 2 v)
+pub list_test : (v : Bytes)
+    → matches (seq (one_of (text "cCsSiIf")) (plus item)) v
+    ≡ leb 2 (length v) && is_one_of (text "cCsSiIf") (get_or v 0 0) && eqb 44 (get_or v 1 0) && run true Float (drop 2 v)
 unfolding matches nullable
-list-test [] = refl
-list-test (x ∷ []) = seq-oneOf (text "cCsSiIf") (plus item) x [] ∙ and-false (isOneOf (text "cCsSiIf") x)
-list-test (x ∷ y ∷ v) =
-    seq-oneOf (text "cCsSiIf") (plus item) x (y ∷ v)
-    ∙ rw (sym (seq_end (plus item) (y ∷ v)) ∙ items-step y v, ← run-left true Float v, le-leb 2 (suc (suc (length v))) (omega arith))
-    (sym (and_assoc (isOneOf (text "cCsSiIf") x) (eqb 44 y) (run true Float v)))
+list_test [] = refl
+list_test (x ∷ []) = seq_one_of (text "cCsSiIf") (plus item) x [] ∙ and-false (is_one_of (text "cCsSiIf") x)
+list_test (x ∷ y ∷ v) =
+    seq_one_of (text "cCsSiIf") (plus item) x (y ∷ v)
+    ∙ rw (sym (seq_end (plus item) (y ∷ v)) ∙ items_step y v, ← run_left true Float v, le-leb 2 (suc (suc (length v))) (omega arith))
+    (sym (and_assoc (is_one_of (text "cCsSiIf") x) (eqb 44 y) (run true Float v)))
 
 -- the values of the types H, J and Z are runs
-pub run_value : (t : ℕ) (v : Bytes) → (t ≡ 72) ⊎ ((t ≡ 74) ⊎ (t ≡ 90)) → matches (valueOf t) v ≡ ltb 0 (length v) && all (runClass t) v
-unfolding valueOf
+pub run_value : (t : ℕ) (v : Bytes) → (t ≡ 72) ⊎ ((t ≡ 74) ⊎ (t ≡ 90)) → matches (value_of t) v ≡ ltb 0 (length v) && all (run_class t) v
+unfolding value_of
 run_value t v =
-    ⊎_elim (λ e. rw e (run-test (alt (one digit) (one hexLetter)) (λ x. digit x || hexLetter x) (two-classes digit hexLetter) v))
-    (⊎_elim (λ e. rw e text-test) (λ e. rw e text-test))
+    ⊎_elim (λ e. rw e (run_test (alt (one digit) (one hex_letter)) (λ x. digit x || hex_letter x) (two_classes digit hex_letter) v))
+    (⊎_elim (λ e. rw e text_test) (λ e. rw e text_test))
   where
-    text-test : matches (plus (one printable)) v ≡ ltb 0 (length v) && all printable v
-    text-test = run-test (one printable) printable (one_class printable) v
+    text_test : matches (plus (one printable)) v ≡ ltb 0 (length v) && all printable v
+    text_test = run_test (one printable) printable (one_class printable) v
 
 -- a byte that is no type has no value
 pub no_value : (t : ℕ) (v : Bytes) → (t ≡ 65 → ⊥) → (t ≡ 105 → ⊥) → (t ≡ 102 → ⊥) → ((t ≡ 72) ⊎ ((t ≡ 74) ⊎ (t ≡ 90)) → ⊥) → (t ≡ 66 → ⊥)
-    → matches (valueOf t) v ≡ false
-unfolding valueOf
+    → matches (value_of t) v ≡ false
+unfolding value_of
 no_value t v a i f r b =
     rw (
       ne_eqb t 65 a,
@@ -121,4 +121,4 @@ no_value t v a i f r b =
       ne_eqb t 72 (λ e. r (inl e)),
       ne_eqb t 66 b,
     )
-    (never-fails v)
+    (never_fails v)

@@ -3,7 +3,7 @@ use Rattle.std.specs.Prelude.{Bool, true, false, cond, ◌&&◌, [], ◌∷◌, 
 use Rattle.model.specs.Text.{text}
 use Rattle.model.specs.Bytes.{Bytes}
 use Rattle.model.specs.Strict.{digit}
-use Rattle.strict.specs.Class.{isOneOf}
+use Rattle.strict.specs.Class.{is_one_of}
 use Rattle.strict.specs.declared.number.Number.{Number}
 use Rattle.strict.specs.declared.number.Number.TheVariants.{Float, Unsigned, Whole, Point, Fraction, Integer, UnsignedInteger, Digits, Refused}
 
@@ -14,27 +14,27 @@ abbrev pub exponents : Bytes
 exponents = text "eE"
 
 -- after a digit, and nothing else
-abbrev pub afterDigit : ℕ → Number → Number
-afterDigit x q = cond (digit x) q Refused
+abbrev pub after_digit : ℕ → Number → Number
+after_digit x q = cond (digit x) q Refused
 
 -- after the sign: the point, or a digit
-abbrev pub afterSign : ℕ → Number
-afterSign x = cond (eqb 46 x) Point (afterDigit x Whole)
+abbrev pub after_sign : ℕ → Number
+after_sign x = cond (eqb 46 x) Point (after_digit x Whole)
 
 -- after a number without an exponent: its exponent, in a list a comma, or else what q says
-abbrev pub afterNumber : Bool → ℕ → Number → Number
-afterNumber list x q = cond (isOneOf exponents x) Integer (cond (eqb 44 x && list) Float q)
+abbrev pub after_number : Bool → ℕ → Number → Number
+after_number list x q = cond (is_one_of exponents x) Integer (cond (eqb 44 x && list) Float q)
 
 -- the state after the byte x
 abbrev pub next : Bool → Number → ℕ → Number
-next list Float x = cond (isOneOf signs x) Unsigned (afterSign x)
-next list Unsigned x = afterSign x
-next list Whole x = afterNumber list x (afterSign x)
-next list Point x = afterDigit x Fraction
-next list Fraction x = afterNumber list x (afterDigit x Fraction)
-next list Integer x = cond (isOneOf signs x) UnsignedInteger (afterDigit x Digits)
-next list UnsignedInteger x = afterDigit x Digits
-next list Digits x = cond (eqb 44 x && list) Float (afterDigit x Digits)
+next list Float x = cond (is_one_of signs x) Unsigned (after_sign x)
+next list Unsigned x = after_sign x
+next list Whole x = after_number list x (after_sign x)
+next list Point x = after_digit x Fraction
+next list Fraction x = after_number list x (after_digit x Fraction)
+next list Integer x = cond (is_one_of signs x) UnsignedInteger (after_digit x Digits)
+next list UnsignedInteger x = after_digit x Digits
+next list Digits x = cond (eqb 44 x && list) Float (after_digit x Digits)
 next list Refused x = Refused
 
 -- whether a number may end in a state

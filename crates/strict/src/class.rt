@@ -1,7 +1,7 @@
 // The five classes of bytes, by one table, and whether a byte is one of some.
 ghost use Rattle.std.specs.Prelude.{◌≡◌};
-ghost use Rattle.model.specs.Strict.{digit, hexLetter, letter, visible, printable};
-ghost use Rattle.strict.specs.Class.{Classes, isOneOf};
+ghost use Rattle.model.specs.Strict.{digit, hex_letter, letter, visible, printable};
+ghost use Rattle.strict.specs.Class.{Classes, is_one_of};
 
 // Each byte's classes: 1 a digit, 2 A to F, 4 a letter, 8 from ! to ~, 16 from the space to ~.
 const CLASSES: [u8; 256] = [
@@ -32,7 +32,7 @@ pub(crate) fn is_digit(x: u8) -> bool
 
 // Whether a byte is one of A to F.
 pub(crate) fn is_hex_letter(x: u8) -> bool
-    ensures { result ≡ hexLetter x }
+    ensures { result ≡ hex_letter x }
 {
     class_of(x) / 2 % 2 == 1
 }
@@ -60,7 +60,7 @@ pub(crate) fn is_printable(x: u8) -> bool
 
 // Whether a byte is one of some bytes.
 pub(crate) fn is_one_of(x: u8, bytes: &[u8]) -> bool
-    ensures { result ≡ isOneOf bytes.now x }
+    ensures { result ≡ is_one_of bytes.now x }
 {
     let mut i = 0;
     while i < bytes.len() {

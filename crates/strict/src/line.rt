@@ -1,7 +1,7 @@
 // The strict reading of a line, field by field.
 ghost use Rattle.std.specs.Prelude.{◌≡◌, [], replicate};
-ghost use Rattle.model.specs.Strict.{strictFields, strict};
-ghost use Rattle.strict.specs.Line.{fieldsAfter};
+ghost use Rattle.model.specs.Strict.{strict_fields, strict};
+ghost use Rattle.strict.specs.Line.{fields_after};
 
 use crate::tag::is_new_field;
 use model::Strictness;
@@ -9,7 +9,7 @@ use model::Strictness;
 // What the fields after the one that ends at `end` come to; `seen` is the table of tags, and none is seen yet.
 fn check_fields(line: &[u8], end: usize, seen: &mut [u8]) -> Strictness
     requires { seen.old ≡ replicate 2704 0 }
-    ensures { result ≡ strictFields 1 [] (fieldsAfter line.now end) }
+    ensures { result ≡ strict_fields 1 [] (fields_after line.now end) }
 {
     let mut at = end;
     let mut number = 1;

@@ -1,7 +1,7 @@
 // Numbers as the specification writes them, and lists of them, read byte by byte in one pass.
 ghost use Rattle.std.specs.Prelude.{◌≡◌, ◌&&◌, eqb};
-ghost use Rattle.strict.specs.Class.{isOneOf};
-ghost use Rattle.strict.specs.Number.{signs, exponents, afterDigit, afterSign, afterNumber, next, ends, run};
+ghost use Rattle.strict.specs.Class.{is_one_of};
+ghost use Rattle.strict.specs.Number.{signs, exponents, after_digit, after_sign, after_number, next, ends, run};
 
 use crate::class::{is_digit, is_one_of};
 
@@ -22,21 +22,21 @@ pub(crate) enum Number {
 
 // Whether a byte is a sign.
 fn is_sign(x: u8) -> bool
-    ensures { result ≡ isOneOf signs x }
+    ensures { result ≡ is_one_of signs x }
 {
     is_one_of(x, b"-+")
 }
 
 // Whether a byte begins an exponent.
 fn is_exponent(x: u8) -> bool
-    ensures { result ≡ isOneOf exponents x }
+    ensures { result ≡ is_one_of exponents x }
 {
     is_one_of(x, b"eE")
 }
 
 // The state after a digit is q; after any other byte the text is refused.
 fn after_digit(x: u8, q: Number) -> Number
-    ensures { result ≡ afterDigit x q }
+    ensures { result ≡ after_digit x q }
 {
     if is_digit(x) {
         return q;
@@ -56,7 +56,7 @@ fn is_comma(list: bool, x: u8) -> bool
 
 // The state after a byte behind the sign: the point, or a digit before it.
 fn after_sign(x: u8) -> Number
-    ensures { result ≡ afterSign x }
+    ensures { result ≡ after_sign x }
 {
     if x == b'.' {
         return Number::Point;
@@ -66,7 +66,7 @@ fn after_sign(x: u8) -> Number
 
 // The state after a byte behind a number that has no exponent yet: its exponent, or a list's comma; after any other byte it is q.
 fn after_number(list: bool, x: u8, q: Number) -> Number
-    ensures { result ≡ afterNumber list x q }
+    ensures { result ≡ after_number list x q }
 {
     if is_exponent(x) {
         return Number::Integer;

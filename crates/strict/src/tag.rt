@@ -1,14 +1,14 @@
 // The tags of a line: each has a place in a table, which tells whether it was seen.
 ghost use Rattle.std.specs.Prelude.{◌≡◌, true, cond, ◌&&◌, ◌<◌, eqb, length, get_or, set};
-ghost use Rattle.model.specs.Strict.{letter, fineField};
-ghost use Rattle.strict.specs.Tag.{letterPlace, tagPlace, fieldPlace};
+ghost use Rattle.model.specs.Strict.{letter, fine_field};
+ghost use Rattle.strict.specs.Tag.{letter_place, tag_place, field_place};
 
 use crate::value::fine_field;
 
 // The place of a letter: A to Z, then a to z.
 fn letter_place(x: u8) -> usize
     requires { letter x ≡ true }
-    ensures { (result ≡ letterPlace x) × (result < 52) }
+    ensures { (result ≡ letter_place x) × (result < 52) }
 {
     if x < b'a' {
         return (x - b'A') as usize;
@@ -19,7 +19,7 @@ fn letter_place(x: u8) -> usize
 // The place of the tag of two letters.
 fn tag_place(x: u8, y: u8) -> usize
     requires { (letter x ≡ true) × (letter y ≡ true) }
-    ensures { (result ≡ tagPlace x y) × (result < 2704) }
+    ensures { (result ≡ tag_place x y) × (result < 2704) }
 {
     letter_place(x) * 52 + letter_place(y)
 }
@@ -27,8 +27,8 @@ fn tag_place(x: u8, y: u8) -> usize
 // Whether f is a typed field with a tag that was not seen; the tag is then marked as seen.
 pub(crate) fn is_new_field(f: &[u8], seen: &mut [u8]) -> bool
     requires { length seen.old ≡ 2704 }
-    ensures value { result ≡ (fineField f.now && eqb (get_or seen.old (fieldPlace f.now) 0) 0) }
-    ensures seen_after { seen.new ≡ cond result (set seen.old (fieldPlace f.now) 1) seen.old }
+    ensures value { result ≡ (fine_field f.now && eqb (get_or seen.old (field_place f.now) 0) 0) }
+    ensures seen_after { seen.new ≡ cond result (set seen.old (field_place f.now) 1) seen.old }
 {
     if !fine_field(f) {
         return false;

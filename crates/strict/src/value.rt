@@ -1,8 +1,8 @@
 // Values of the seven types, and typed fields.
 ghost use Rattle.std.specs.Prelude.{◌≡◌, ◌&&◌, ltb, length};
-ghost use Rattle.model.specs.Strict.{one, visible, matches, valueOf, fineField};
+ghost use Rattle.model.specs.Strict.{one, visible, matches, value_of, fine_field};
 ghost use Rattle.strict.specs.Class.{all};
-ghost use Rattle.strict.specs.Value.{runClass};
+ghost use Rattle.strict.specs.Value.{run_class};
 
 use crate::class::{is_digit, is_hex_letter, is_letter, is_one_of, is_printable, is_visible};
 use crate::number::{Number, is_number};
@@ -19,7 +19,7 @@ fn is_one_visible(v: &[u8]) -> bool
 
 // Whether a byte may stand in a value of type H or, where t is another, of type Z or J.
 fn in_run(t: u8, x: u8) -> bool
-    ensures { result ≡ runClass t x }
+    ensures { result ≡ run_class t x }
 {
     if t != b'H' {
         return is_printable(x);
@@ -32,7 +32,7 @@ fn in_run(t: u8, x: u8) -> bool
 
 // Whether v is one or more bytes that may stand in a value of type t: Z, J or H.
 fn is_run(t: u8, v: &[u8]) -> bool
-    ensures { result ≡ (ltb 0 (length v.now) && all (runClass t) v.now) }
+    ensures { result ≡ (ltb 0 (length v.now) && all (run_class t) v.now) }
 {
     let mut i = 0;
     while i < v.len() {
@@ -46,7 +46,7 @@ fn is_run(t: u8, v: &[u8]) -> bool
 
 // Whether v is a list of numbers: the letter of their width, then a comma before each.
 fn is_list(v: &[u8]) -> bool
-    ensures { result ≡ matches (valueOf 66) v.now }
+    ensures { result ≡ matches (value_of 66) v.now }
 {
     if v.len() < 2 {
         return false;
@@ -62,7 +62,7 @@ fn is_list(v: &[u8]) -> bool
 
 // Whether v is a value of type t; a byte that is no type has none.
 pub fn fine_value(t: u8, v: &[u8]) -> bool
-    ensures { result ≡ matches (valueOf t) v.now }
+    ensures { result ≡ matches (value_of t) v.now }
 {
     match t {
         b'A' => is_one_visible(v),
@@ -76,7 +76,7 @@ pub fn fine_value(t: u8, v: &[u8]) -> bool
 
 // Whether f is a typed field: two letters, a colon, a type, a colon, a value of that type.
 pub fn fine_field(f: &[u8]) -> bool
-    ensures { result ≡ fineField f.now }
+    ensures { result ≡ fine_field f.now }
 {
     if f.len() < 5 {
         return false;

@@ -8,64 +8,64 @@ use lib.Dec.{lit≤}
 use lib.ListN.{length, drop, length-drop}
 use lib.Seq.{length-take-le}
 use Rattle.model.specs.Bytes.{Bytes}
-use Rattle.model.specs.Record.{GraphName, names, maxNameBytes}
-use Rattle.model.specs.Layout.{nameCount, ownNumber, pairLength, bodyStart, bodyLength, bodiesAt, nameAt, shown, decode, pairCount, tableAt}
-use Rattle.model.specs.Questions.{pairsOf}
-use Rattle.model.specs.Opening.{isSome}
-use Rattle.model.specs.Outcome.{nameOr}
+use Rattle.model.specs.Record.{GraphName, names, max_name_bytes}
+use Rattle.model.specs.Layout.{name_count, own_number, pair_length, body_start, body_length, bodies_at, name_at, shown, decode, pair_count, table_at}
+use Rattle.model.specs.Questions.{pairs_of}
+use Rattle.model.specs.Opening.{is_some}
+use Rattle.model.specs.Outcome.{name_or}
 use Rattle.model.specs.declared.Kind.{Kind}
 use Rattle.model.specs.declared.Kind.TheVariants.{Subgraph, Translation}
-use Rattle.record.specs.Test.{namesOf}
+use Rattle.record.specs.Test.{names_of}
 use Rattle.record.proofs.Held.{Held}
-use Rattle.record.proofs.Laws.{decoded, decode-held, decode-shown}
-use Rattle.record.proofs.Own.{own-none, own-some}
-use Rattle.record.proofs.Access.{name-within, record-names, record-count, record-pairCount}
-use Rattle.record.proofs.Sizes.{Sizes, judge-sizes}
+use Rattle.record.proofs.Laws.{decoded, decode_held, decode_shown}
+use Rattle.record.proofs.Own.{own_none, own_some}
+use Rattle.record.proofs.Access.{name_within, record_names, record_count, record_pair_count}
+use Rattle.record.proofs.Sizes.{Sizes, judge_sizes}
 
-module _ (b : Bytes) (v : isSome (decode b) ≡ true) where
+module _ (b : Bytes) (v : is_some (decode b) ≡ true) where
   pub decodes : decode b ≡ some (shown b)
   decodes = go (decode b) refl v
     where
-      go : (o : Option GraphName) → decode b ≡ o → isSome o ≡ true → decode b ≡ some (shown b)
+      go : (o : Option GraphName) → decode b ≡ o → is_some o ≡ true → decode b ≡ some (shown b)
       go none e t = absurd (false≢true t)
-      go (some g) e t = e ∙ ap some (sym (decode-shown b g e))
+      go (some g) e t = e ∙ ap some (sym (decode_shown b g e))
 
   pub is_held : Held b
-  is_held = decode-held b (shown b) decodes
+  is_held = decode_held b (shown b) decodes
 
-  pub sizes-within : Sizes (shown b)
-  sizes-within = judge-sizes (shown b) (decoded b (shown b) decodes).0.sizes
+  pub sizes_within : Sizes (shown b)
+  sizes_within = judge_sizes (shown b) (decoded b (shown b) decodes).0.sizes
 
-  pub shown-names : names (shown b) ≡ namesOf b
-  shown-names = record-names b (shown b) decodes
+  pub shown_names : names (shown b) ≡ names_of b
+  shown_names = record_names b (shown b) decodes
 
-  pub shown-count : length (names (shown b)) ≡ nameCount b
-  shown-count = record-count b (shown b) decodes
+  pub shown_count : length (names (shown b)) ≡ name_count b
+  shown_count = record_count b (shown b) decodes
 
   -- a name's bytes are few
-  pub name-short : (i : ℕ) → i < nameCount b → length (nameAt b i) ≤ maxNameBytes
-  unfolding nameAt
-  name-short i h =
-      let w = name-within b (shown b) decodes i h in
+  pub name_short : (i : ℕ) → i < name_count b → length (name_at b i) ≤ max_name_bytes
+  unfolding name_at
+  name_short i h =
+      let w = name_within b (shown b) decodes i h in
       let l = is_held.long in
-      rw (length-take-le (bodyLength b i) (drop (bodiesAt b + bodyStart b i) b) (rw length-drop (omega arith)))
+      rw (length-take-le (body_length b i) (drop (bodies_at b + body_start b i) b) (rw length-drop (omega arith)))
       w.1
 
   -- how many pairs of a kind there are
-  pub pairs-counted : (k : Kind) → length (pairsOf k (shown b)) ≡ pairCount k b
-  pairs-counted k = record-pairCount b (shown b) decodes k
+  pub pairs_counted : (k : Kind) → length (pairs_of k (shown b)) ≡ pair_count k b
+  pairs_counted k = record_pair_count b (shown b) decodes k
 
   -- which stand within the buffer
-  pub pair_inside : (k : Kind) (i : ℕ) → i < pairCount k b → tableAt k b + pairLength * i + pairLength ≤ length b
+  pub pair_inside : (k : Kind) (i : ℕ) → i < pair_count k b → table_at k b + pair_length * i + pair_length ≤ length b
   pair_inside Subgraph i h = omega (arith, is_held.long, is_held.count, is_held.subgraphs)
   pair_inside Translation i h = omega (arith, is_held.long, is_held.count, is_held.subgraphs, is_held.translations)
 
 -- the own name is short, where there is one
-pub own-short : (b : Bytes) → isSome (decode b) ≡ true → length (nameOr (shown b).name) ≤ maxNameBytes
-own-short b v = go (ownNumber b) refl
+pub own_short : (b : Bytes) → is_some (decode b) ≡ true → length (name_or (shown b).name) ≤ max_name_bytes
+own_short b v = go (own_number b) refl
   where
-    go : (own : ℕ) → ownNumber b ≡ own → length (nameOr (shown b).name) ≤ maxNameBytes
-    go zero e = rw (own-none b (ownNumber b) refl e) (lit≤ tt)
+    go : (own : ℕ) → own_number b ≡ own → length (name_or (shown b).name) ≤ max_name_bytes
+    go zero e = rw (own_none b (own_number b) refl e) (lit≤ tt)
     go (suc i) e =
         let h = is_held b v in
-        rw (own-some b (ownNumber b) refl (λ z. omega arith)) (name-short b v (ownNumber b - 1) (omega (arith, h.own)))
+        rw (own_some b (own_number b) refl (λ z. omega arith)) (name_short b v (own_number b - 1) (omega (arith, h.own)))

@@ -1,36 +1,36 @@
 -- The sizes that tables are judged by, with an own name kept apart; and what can be stored.
 use Rattle.std.specs.Prelude.{◌≡◌, Bool, true, false, cond, ◌||◌, List, ℕ, ◌≤◌, length, ltb}
 use Rattle.std.proofs.Math.Option.{Option, some, none}
-use Rattle.model.specs.Bytes.{Bytes, compareBytes}
-use Rattle.model.specs.Record.{GraphName, insert, names, anyLong, bodies, maxNames, maxPairs, maxBodiesBytes}
+use Rattle.model.specs.Bytes.{Bytes, compare_bytes}
+use Rattle.model.specs.Record.{GraphName, insert, names, any_long, bodies, max_names, max_pairs, max_bodies_bytes}
 use Rattle.model.specs.Outcome.{Outcome}
 use Rattle.model.specs.Statements.{Ascending}
 use Rattle.record.specs.Coded.{meaning}
 use Rattle.sorted.specs.declared.putting.Sizes.{Sizes}
-use Rattle.sorted.specs.Tables.{Tables, namesIn, tableNames, graphIn, readOut, Kept}
+use Rattle.sorted.specs.Tables.{Tables, names_in, table_names, graph_in, read_out, Kept}
 
 -- a graph name with this own name, or none
 abbrev pub owned : Option Bytes → GraphName → GraphName
 owned name g = record { name = name; subgraph = g.subgraph; translation = g.translation }
 
 -- an own name, if there is one
-abbrev pub ownIf : Bool → Bytes → Option Bytes
-ownIf false own = none
-ownIf true own = some own
+abbrev pub own_if : Bool → Bytes → Option Bytes
+own_if false own = none
+own_if true own = some own
 
 -- the names, with an own name among them
-abbrev pub namesAnd : Option Bytes → List Bytes → List Bytes
-namesAnd none ns = ns
-namesAnd (some n) ns = insert compareBytes n ns
+abbrev pub names_and : Option Bytes → List Bytes → List Bytes
+names_and none ns = ns
+names_and (some n) ns = insert compare_bytes n ns
 
 -- the numbers 12 to 14 of docs/FORMAT.md, in their order, or 0
-unfoldable pub countFault : ℕ → ℕ → ℕ → ℕ → ℕ
-countFault count bytes subgraph translation =
-    cond (ltb maxNames count) 12 (cond (ltb maxPairs subgraph || ltb maxPairs translation) 13 (cond (ltb maxBodiesBytes bytes) 14 0))
+unfoldable pub count_fault : ℕ → ℕ → ℕ → ℕ → ℕ
+count_fault count bytes subgraph translation =
+    cond (ltb max_names count) 12 (cond (ltb max_pairs subgraph || ltb max_pairs translation) 13 (cond (ltb max_bodies_bytes bytes) 14 0))
 
 -- 11 to 14, of these names and so many pairs
-abbrev pub sizeFault : List Bytes → ℕ → ℕ → ℕ
-sizeFault ns subgraph translation = cond (anyLong ns) 11 (countFault (length ns) (length (bodies ns)) subgraph translation)
+abbrev pub size_fault : List Bytes → ℕ → ℕ → ℕ
+size_fault ns subgraph translation = cond (any_long ns) 11 (count_fault (length ns) (length (bodies ns)) subgraph translation)
 
 -- a number, and what the buffer holds then
 abbrev pub outcome : ℕ → Bytes → Outcome
@@ -38,29 +38,29 @@ outcome number buffer = record { number = number; buffer = buffer }
 
 -- what is known of the names of tables
 pub record NamesKept (refs : List ℕ) (pool : Bytes) (sizes : Sizes) : Type 0 where
-  pub order : Ascending compareBytes (namesIn pool sizes.names refs)
-  pub short : anyLong (namesIn pool sizes.names refs) ≡ false
-  pub total : sizes.bytes ≡ length (bodies (namesIn pool sizes.names refs))
+  pub order : Ascending compare_bytes (names_in pool sizes.names refs)
+  pub short : any_long (names_in pool sizes.names refs) ≡ false
+  pub total : sizes.bytes ≡ length (bodies (names_in pool sizes.names refs))
   pub count : sizes.names ≤ length refs
   pub room : sizes.bytes ≤ length pool
 
 -- every name is used, by the pairs or as this own name
 pub record Good (own : Option Bytes) (t : Tables) : Type 0 where
   pub kept : Kept t
-  pub used : names (owned own (graphIn t)) ≡ tableNames t
+  pub used : names (owned own (graph_in t)) ≡ table_names t
 
 -- the tables, with the own name of this number, are those of a graph name
 pub record Complete (t : Tables) (own : ℕ) : Type 0 where
   pub kept : Kept t
-  pub own-within : own ≤ t.sizes.names
-  pub used : names (meaning (readOut t own)) ≡ tableNames t
+  pub own_within : own ≤ t.sizes.names
+  pub used : names (meaning (read_out t own)) ≡ table_names t
 
 -- these sizes are allowed
 pub record Limited (s : Sizes) : Type 0 where
-  pub names : s.names ≤ maxNames
-  pub bytes : s.bytes ≤ maxBodiesBytes
-  pub subgraph : s.subgraph ≤ maxPairs
-  pub translation : s.translation ≤ maxPairs
+  pub names : s.names ≤ max_names
+  pub bytes : s.bytes ≤ max_bodies_bytes
+  pub subgraph : s.subgraph ≤ max_pairs
+  pub translation : s.translation ≤ max_pairs
 
 -- the tables, with the own name of this number, are those of a graph name within the sizes
 pub record Storable (t : Tables) (own : ℕ) : Type 0 where

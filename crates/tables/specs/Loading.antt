@@ -4,19 +4,19 @@ use Rattle.std.proofs.Math.Option.{none}
 use Rattle.model.specs.Bytes.{Bytes}
 use Rattle.model.specs.declared.Kind.{Kind}
 use Rattle.model.specs.Record.{GraphName, names, bodies}
-use Rattle.record.specs.Test.{pairsAt}
-use Rattle.model.specs.Layout.{pairCount, tableAt}
+use Rattle.record.specs.Test.{pairs_at}
+use Rattle.model.specs.Layout.{pair_count, table_at}
 use Rattle.sorted.specs.declared.putting.Sizes.{Sizes}
-use Rattle.sorted.specs.Tables.{Tables, graphIn}
+use Rattle.sorted.specs.Tables.{Tables, graph_in}
 use Rattle.tables.specs.Judging.{owned, Good}
 
 -- the pairs of a kind, as places
-abbrev pub pairsOfKind : Kind → Bytes → List (ℕ × ℕ)
-pairsOfKind kind b = pairsAt (pairCount kind b) (drop (tableAt kind b) b)
+abbrev pub pairs_of_kind : Kind → Bytes → List (ℕ × ℕ)
+pairs_of_kind kind b = pairs_at (pair_count kind b) (drop (table_at kind b) b)
 
 -- how much of the tables a graph name takes
-abbrev pub sizesOf : GraphName → Sizes
-sizesOf g = record {
+abbrev pub sizes_of : GraphName → Sizes
+sizes_of g = record {
   names = length (names g);
   bytes = length (bodies (names g));
   subgraph = length g.subgraph;
@@ -35,5 +35,5 @@ pub record TableRoom (s : Sizes) (refs subs trans : List ℕ) (pool : Bytes) : T
 -- u are tables with all names and pairs of a graph name, and nothing else
 pub record Loaded (g : GraphName) (u : Tables) : Type 0 where
   pub good : Good g.name u
-  pub graph : graphIn u ≡ owned none g
-  pub sizes : u.sizes ≡ sizesOf g
+  pub graph : graph_in u ≡ owned none g
+  pub sizes : u.sizes ≡ sizes_of g

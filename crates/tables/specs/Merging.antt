@@ -4,34 +4,34 @@ use mathlib.Core.List.{List, [], ◌∷◌, Memᴰ}
 use Rattle.std.proofs.Math.Option.{Option}
 use Rattle.model.specs.declared.Kind.{Kind}
 use Rattle.model.specs.declared.Kind.TheVariants.{Subgraph, Translation}
-use Rattle.model.specs.Bytes.{Bytes, compareBytes}
-use Rattle.model.specs.Record.{Pair, GraphName, insertAll, withPair, names, bodies, maxNameBytes}
-use Rattle.model.specs.Questions.{pairsOf}
-use Rattle.sorted.specs.Tables.{Tables, tableNames, graphIn, Kept}
+use Rattle.model.specs.Bytes.{Bytes, compare_bytes}
+use Rattle.model.specs.Record.{Pair, GraphName, insert_all, with_pair, names, bodies, max_name_bytes}
+use Rattle.model.specs.Questions.{pairs_of}
+use Rattle.sorted.specs.Tables.{Tables, table_names, graph_in, Kept}
 use Rattle.tables.specs.Judging.{Good}
 
 -- pairs of a kind added, one after the other
-abbrev pub withPairs : Kind → List Pair → GraphName → GraphName
-withPairs kind [] g = g
-withPairs kind (p ∷ ps) g = withPairs kind ps (withPair kind p g)
+abbrev pub with_pairs : Kind → List Pair → GraphName → GraphName
+with_pairs kind [] g = g
+with_pairs kind (p ∷ ps) g = with_pairs kind ps (with_pair kind p g)
 
 -- how many of k pairs of a kind are of either
-abbrev pub subgraphMore : Kind → ℕ → ℕ
-subgraphMore Subgraph k = k
-subgraphMore Translation k = 0
+abbrev pub subgraph_more : Kind → ℕ → ℕ
+subgraph_more Subgraph k = k
+subgraph_more Translation k = 0
 
-abbrev pub translationMore : Kind → ℕ → ℕ
-translationMore Subgraph k = 0
-translationMore Translation k = k
+abbrev pub translation_more : Kind → ℕ → ℕ
+translation_more Subgraph k = 0
+translation_more Translation k = k
 
 -- all names of the tables and of h
-abbrev pub allOf : Tables → GraphName → List Bytes
-allOf t h = insertAll compareBytes (names h) (tableNames t)
+abbrev pub all_of : Tables → GraphName → List Bytes
+all_of t h = insert_all compare_bytes (names h) (table_names t)
 
 -- there is room for all names of h and for these many pairs, and for one pair more
 pub record MergeRoom (t : Tables) (h : GraphName) (s m : ℕ) : Type 0 where
-  pub count : length (allOf t h) + 1 < length t.refs
-  pub room : length (bodies (allOf t h)) + 2 * maxNameBytes ≤ length t.pool
+  pub count : length (all_of t h) + 1 < length t.refs
+  pub room : length (bodies (all_of t h)) + 2 * max_name_bytes ≤ length t.pool
   pub subgraph : t.sizes.subgraph + s < length t.subs
   pub translation : t.sizes.translation + m < length t.trans
 
@@ -39,7 +39,7 @@ pub record MergeRoom (t : Tables) (h : GraphName) (s m : ℕ) : Type 0 where
 pub record PairsPut (kind : Kind) (t : Tables) (h : GraphName) (u : Tables) : Type 0 where
   pub kept : Kept u
   pub good : (own : Option Bytes) → Good own t → Good own u
-  pub graph : graphIn u ≡ withPairs kind (pairsOf kind h) (graphIn t)
-  pub within : (x : Bytes) → Memᴰ x (tableNames u) → Memᴰ x (allOf t h)
-  pub subgraph : u.sizes.subgraph ≤ t.sizes.subgraph + subgraphMore kind (length (pairsOf kind h))
-  pub translation : u.sizes.translation ≤ t.sizes.translation + translationMore kind (length (pairsOf kind h))
+  pub graph : graph_in u ≡ with_pairs kind (pairs_of kind h) (graph_in t)
+  pub within : (x : Bytes) → Memᴰ x (table_names u) → Memᴰ x (all_of t h)
+  pub subgraph : u.sizes.subgraph ≤ t.sizes.subgraph + subgraph_more kind (length (pairs_of kind h))
+  pub translation : u.sizes.translation ≤ t.sizes.translation + translation_more kind (length (pairs_of kind h))

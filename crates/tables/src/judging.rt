@@ -1,20 +1,20 @@
 // The sizes, the numbers 11 to 14 of docs/FORMAT.md, and storing what is within them.
 ghost use Rattle.std.specs.Prelude.{◌≡◌, true, ◌+◌, ◌<◌, length};
-ghost use Rattle.model.specs.Layout.{recordLength, shown, decode};
-ghost use Rattle.model.specs.Opening.{isSome};
-ghost use Rattle.model.specs.Outcome.{keptOr};
+ghost use Rattle.model.specs.Layout.{record_length, shown, decode};
+ghost use Rattle.model.specs.Opening.{is_some};
+ghost use Rattle.model.specs.Outcome.{kept_or};
 ghost use Rattle.record.specs.Coded.{meaning};
-ghost use Rattle.sorted.specs.Tables.{tables, namesIn, readOut, graphIn};
-ghost use Rattle.tables.specs.Judging.{ownIf, namesAnd, countFault, sizeFault, owned, outcome, NamesKept, Complete, Good};
+ghost use Rattle.sorted.specs.Tables.{tables, names_in, read_out, graph_in};
+ghost use Rattle.tables.specs.Judging.{own_if, names_and, count_fault, size_fault, owned, outcome, NamesKept, Complete, Good};
 
 use crate::storing::store;
 use record::{MAX_BODIES_BYTES, MAX_NAME_BYTES, MAX_NAMES, MAX_PAIRS};
 use sorted::{Sizes, is_at, name_place};
 
 // The first of the sizes that is over its limit: names, pairs of either kind, bytes. Or 0.
-#[tactic(auto, unfolding(crate::specs::Judging::countFault))]
+#[tactic(auto, unfolding(crate::specs::Judging::count_fault))]
 fn count_fault(names: usize, bytes: usize, subgraph: usize, translation: usize) -> u32
-    ensures { result ≡ countFault names bytes subgraph translation }
+    ensures { result ≡ count_fault names bytes subgraph translation }
 {
     if MAX_NAMES < names {
         return 12;
@@ -33,7 +33,7 @@ fn count_fault(names: usize, bytes: usize, subgraph: usize, translation: usize) 
 #[tactic(auto, using(crate::proofs::Judge::faults))]
 pub fn size_fault(refs: &[u32], pool: &[u8], sizes: Sizes, has_name: bool, own: &[u8]) -> u32
     requires { NamesKept refs.now pool.now sizes }
-    ensures { result ≡ sizeFault (namesAnd (ownIf has_name own.now) (namesIn pool.now sizes.names refs.now)) sizes.subgraph sizes.translation }
+    ensures { result ≡ size_fault (names_and (own_if has_name own.now) (names_in pool.now sizes.names refs.now)) sizes.subgraph sizes.translation }
 {
     let n = sizes.names;
     if !has_name {
@@ -63,8 +63,8 @@ fn keep(
     sizes: Sizes,
     own: usize,
 ) -> u32
-    requires { Complete (tables refs.now subs.now trans.now pool.now sizes) own × (length buffer.old ≡ recordLength) }
-    ensures { outcome result buffer.new ≡ keptOr buffer.old (meaning (readOut (tables refs.now subs.now trans.now pool.now sizes) own)) }
+    requires { Complete (tables refs.now subs.now trans.now pool.now sizes) own × (length buffer.old ≡ record_length) }
+    ensures { outcome result buffer.new ≡ kept_or buffer.old (meaning (read_out (tables refs.now subs.now trans.now pool.now sizes) own)) }
 {
     let fault = count_fault(sizes.names, sizes.bytes, sizes.subgraph, sizes.translation);
     if fault != 0 {
@@ -83,8 +83,8 @@ pub fn keep_named(
     pool: &[u8],
     sizes: Sizes,
 ) -> u32
-    requires { (isSome (decode buffer.old) ≡ true) × Good (shown buffer.old).name (tables refs.now subs.now trans.now pool.now sizes) }
-    ensures { outcome result buffer.new ≡ keptOr buffer.old (owned (shown buffer.old).name (graphIn (tables refs.now subs.now trans.now pool.now sizes))) }
+    requires { (is_some (decode buffer.old) ≡ true) × Good (shown buffer.old).name (tables refs.now subs.now trans.now pool.now sizes) }
+    ensures { outcome result buffer.new ≡ kept_or buffer.old (owned (shown buffer.old).name (graph_in (tables refs.now subs.now trans.now pool.now sizes))) }
 {
     if !record::has_name(buffer) {
         return keep(buffer, refs, subs, trans, pool, sizes, 0);

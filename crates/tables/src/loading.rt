@@ -2,11 +2,11 @@
 ghost use Rattle.std.specs.Prelude.{◌≡◌, true, ◌≤◌, ◌<◌, length};
 ghost use Rattle.model.specs.Bytes.{put};
 ghost use Rattle.model.specs.Record.{bodies};
-ghost use Rattle.model.specs.Layout.{nameCount, shown, decode, pairCount};
-ghost use Rattle.model.specs.Opening.{isSome};
-ghost use Rattle.record.specs.Test.{entriesOf, namesOf};
-ghost use Rattle.sorted.specs.Tables.{tables, pairsIn};
-ghost use Rattle.tables.specs.Loading.{pairsOfKind, sizesOf, TableRoom, Loaded};
+ghost use Rattle.model.specs.Layout.{name_count, shown, decode, pair_count};
+ghost use Rattle.model.specs.Opening.{is_some};
+ghost use Rattle.record.specs.Test.{entries_of, names_of};
+ghost use Rattle.sorted.specs.Tables.{tables, pairs_in};
+ghost use Rattle.tables.specs.Loading.{pairs_of_kind, sizes_of, TableRoom, Loaded};
 
 use model::Kind;
 use record::{
@@ -18,8 +18,8 @@ use text::{copy, part};
 
 // Copies start and length of each name.
 fn load_entries(refs: &mut [u32], b: &[u8])
-    requires { (isSome (decode b.now) ≡ true) × (nameCount b.now ≤ length refs.old) }
-    ensures { pairsIn (nameCount b.now) refs.new ≡ entriesOf b.now }
+    requires { (is_some (decode b.now) ≡ true) × (name_count b.now ≤ length refs.old) }
+    ensures { pairs_in (name_count b.now) refs.new ≡ entries_of b.now }
 {
     let n = name_count(b);
     let mut i = 0;
@@ -31,8 +31,8 @@ fn load_entries(refs: &mut [u32], b: &[u8])
 
 // Copies the pairs of a kind.
 fn load_pairs(kind: Kind, pairs: &mut [u32], b: &[u8])
-    requires { (isSome (decode b.now) ≡ true) × (pairCount kind b.now ≤ length pairs.old) }
-    ensures { pairsIn (pairCount kind b.now) pairs.new ≡ pairsOfKind kind b.now }
+    requires { (is_some (decode b.now) ≡ true) × (pair_count kind b.now ≤ length pairs.old) }
+    ensures { pairs_in (pair_count kind b.now) pairs.new ≡ pairs_of_kind kind b.now }
 {
     let n = pair_count(b, kind);
     let at = table_at(b, kind);
@@ -46,16 +46,16 @@ fn load_pairs(kind: Kind, pairs: &mut [u32], b: &[u8])
 
 // Copies the bodies, which are this long together.
 fn load_bodies(pool: &mut [u8], b: &[u8], bytes: usize)
-    requires { (isSome (decode b.now) ≡ true) × (bytes ≡ length (bodies (namesOf b.now))) × (bytes ≤ length pool.old) }
-    ensures { pool.new ≡ put pool.old 0 (bodies (namesOf b.now)) }
+    requires { (is_some (decode b.now) ≡ true) × (bytes ≡ length (bodies (names_of b.now))) × (bytes ≤ length pool.old) }
+    ensures { pool.new ≡ put pool.old 0 (bodies (names_of b.now)) }
 {
     copy(pool, 0, part(b, bodies_at(b), bytes));
 }
 
 // How long the bodies of the n names of a record are together.
 fn bodies_length(b: &[u8], n: usize) -> usize
-    requires { (isSome (decode b.now) ≡ true) × (n ≡ nameCount b.now) }
-    ensures { result ≡ length (bodies (namesOf b.now)) }
+    requires { (is_some (decode b.now) ≡ true) × (n ≡ name_count b.now) }
+    ensures { result ≡ length (bodies (names_of b.now)) }
 {
     if n == 0 {
         return 0;
@@ -65,8 +65,8 @@ fn bodies_length(b: &[u8], n: usize) -> usize
 
 // How much of the tables a record takes.
 pub fn sizes_of(b: &[u8]) -> Sizes
-    requires { isSome (decode b.now) ≡ true }
-    ensures { result ≡ sizesOf (shown b.now) }
+    requires { is_some (decode b.now) ≡ true }
+    ensures { result ≡ sizes_of (shown b.now) }
 {
     let h = head_at(b);
     Sizes {
@@ -85,7 +85,7 @@ pub fn load(
     pool: &mut [u8],
     b: &[u8],
 ) -> Sizes
-    requires { TableRoom (sizesOf (shown b.now)) refs.old subs.old trans.old pool.old × (isSome (decode b.now) ≡ true) }
+    requires { TableRoom (sizes_of (shown b.now)) refs.old subs.old trans.old pool.old × (is_some (decode b.now) ≡ true) }
     ensures { Loaded (shown b.now) (tables refs.new subs.new trans.new pool.new result) }
 {
     let sizes = sizes_of(b);

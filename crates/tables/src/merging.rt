@@ -1,10 +1,10 @@
 // The pairs of another record put into the tables.
 ghost use Rattle.std.specs.Prelude.{◌≡◌, true, ◌<◌, length};
 ghost use Rattle.model.specs.Layout.{shown, decode};
-ghost use Rattle.model.specs.Questions.{pairsOf};
-ghost use Rattle.model.specs.Opening.{isSome};
+ghost use Rattle.model.specs.Questions.{pairs_of};
+ghost use Rattle.model.specs.Opening.{is_some};
 ghost use Rattle.sorted.specs.Tables.{tables, Kept};
-ghost use Rattle.tables.specs.Merging.{subgraphMore, translationMore, MergeRoom, PairsPut};
+ghost use Rattle.tables.specs.Merging.{subgraph_more, translation_more, MergeRoom, PairsPut};
 
 use model::Kind;
 use record::{PAIR_LENGTH, name_at, pair_from, pair_to};
@@ -20,8 +20,8 @@ pub fn add_pairs(
     sizes: Sizes,
     other: &[u8],
 ) -> Sizes
-    requires kept { Kept (tables refs.old subs.old trans.old pool.old sizes) × (isSome (decode other.now) ≡ true) }
-    requires merge_room { MergeRoom (tables refs.old subs.old trans.old pool.old sizes) (shown other.now) (subgraphMore kind (length (pairsOf kind (shown other.now)))) (translationMore kind (length (pairsOf kind (shown other.now)))) }
+    requires kept { Kept (tables refs.old subs.old trans.old pool.old sizes) × (is_some (decode other.now) ≡ true) }
+    requires merge_room { MergeRoom (tables refs.old subs.old trans.old pool.old sizes) (shown other.now) (subgraph_more kind (length (pairs_of kind (shown other.now)))) (translation_more kind (length (pairs_of kind (shown other.now)))) }
     ensures { PairsPut kind (tables refs.old subs.old trans.old pool.old sizes) (shown other.now) (tables refs.new subs.new trans.new pool.new result) }
 {
     let count = record::pair_count(other, kind);

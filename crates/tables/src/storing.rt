@@ -2,9 +2,9 @@
 ghost use Rattle.std.specs.Prelude.{◌≡◌, ◌+◌, ◌-◌, ◌*◌, ◌≤◌, ◌<◌, length, replicate};
 ghost use Rattle.model.specs.Bytes.{put};
 ghost use Rattle.model.specs.Record.{bodies};
-ghost use Rattle.model.specs.Layout.{recordLength, entryLength, pairLength, entries, encode};
-ghost use Rattle.record.specs.Coded.{lePairs, meaning};
-ghost use Rattle.sorted.specs.Tables.{tables, pairsIn, namesIn, readOut};
+ghost use Rattle.model.specs.Layout.{record_length, entry_length, pair_length, entries, encode};
+ghost use Rattle.record.specs.Coded.{le_pairs, meaning};
+ghost use Rattle.sorted.specs.Tables.{tables, pairs_in, names_in, read_out};
 ghost use Rattle.tables.specs.Judging.{Storable};
 
 use record::{write_counts, write_entry, write_pair};
@@ -12,8 +12,8 @@ use sorted::{Sizes, body};
 
 // Writes the entries of the first n names at `at`.
 fn store_entries(buffer: &mut [u8], at: usize, refs: &[u32], pool: &[u8], n: usize) -> usize
-    requires { (n ≤ length refs.now) × (n < 65536) × (at + entryLength * n ≤ length buffer.old) }
-    ensures { (result ≡ at + entryLength * n) × (buffer.new ≡ put buffer.old at (entries 0 (namesIn pool.now n refs.now))) }
+    requires { (n ≤ length refs.now) × (n < 65536) × (at + entry_length * n ≤ length buffer.old) }
+    ensures { (result ≡ at + entry_length * n) × (buffer.new ≡ put buffer.old at (entries 0 (names_in pool.now n refs.now))) }
 {
     let mut start = 0;
     let mut p = at;
@@ -29,8 +29,8 @@ fn store_entries(buffer: &mut [u8], at: usize, refs: &[u32], pool: &[u8], n: usi
 
 // Writes the first n pairs at `at`.
 fn store_pairs(buffer: &mut [u8], at: usize, pairs: &[u32], n: usize) -> usize
-    requires { (n ≤ length pairs.now) × (at + pairLength * n ≤ length buffer.old) }
-    ensures { (result ≡ at + pairLength * n) × (buffer.new ≡ put buffer.old at (lePairs (pairsIn n pairs.now))) }
+    requires { (n ≤ length pairs.now) × (at + pair_length * n ≤ length buffer.old) }
+    ensures { (result ≡ at + pair_length * n) × (buffer.new ≡ put buffer.old at (le_pairs (pairs_in n pairs.now))) }
 {
     let mut p = at;
     let mut i = 0;
@@ -44,8 +44,8 @@ fn store_pairs(buffer: &mut [u8], at: usize, pairs: &[u32], n: usize) -> usize
 
 // Writes the bodies of the first n names at `at`.
 fn store_bodies(buffer: &mut [u8], at: usize, refs: &[u32], pool: &[u8], n: usize) -> usize
-    requires { (n ≤ length refs.now) × (at + length (bodies (namesIn pool.now n refs.now)) ≤ length buffer.old) }
-    ensures { (result ≡ at + length (bodies (namesIn pool.now n refs.now))) × (buffer.new ≡ put buffer.old at (bodies (namesIn pool.now n refs.now))) }
+    requires { (n ≤ length refs.now) × (at + length (bodies (names_in pool.now n refs.now)) ≤ length buffer.old) }
+    ensures { (result ≡ at + length (bodies (names_in pool.now n refs.now))) × (buffer.new ≡ put buffer.old at (bodies (names_in pool.now n refs.now))) }
 {
     let mut p = at;
     let mut i = 0;
@@ -78,8 +78,8 @@ pub fn store(
     own: usize,
     buffer: &mut [u8],
 )
-    requires { Storable (tables refs.now subs.now trans.now pool.now sizes) own × (length buffer.old ≡ recordLength) }
-    ensures { buffer.new ≡ encode (meaning (readOut (tables refs.now subs.now trans.now pool.now sizes) own)) }
+    requires { Storable (tables refs.now subs.now trans.now pool.now sizes) own × (length buffer.old ≡ record_length) }
+    ensures { buffer.new ≡ encode (meaning (read_out (tables refs.now subs.now trans.now pool.now sizes) own)) }
 {
     let n = sizes.names;
     let entries = write_counts(buffer, n, own, sizes.subgraph, sizes.translation);

@@ -1,10 +1,10 @@
 // Tags exchanged in place: the keys and values behind them move along, and so do the entries; zeros fill the rest.
 ghost use Rattle.std.specs.Prelude.{◌≡◌, true, ◌++◌, ◌+◌, ◌≤◌, length};
-ghost use Rattle.model.specs.Bytes.{padTo};
+ghost use Rattle.model.specs.Bytes.{pad_to};
 ghost use Rattle.model.specs.Numbers.{le32};
-ghost use Rattle.model.specs.Opening.{isSome};
-ghost use Rattle.model.specs.TagList.{setTag, removeTag, maxKey, maxTags, maxValue, storedKey, tagsLength, tagContents, encodeTags, shownTags, decodeTags};
-ghost use Rattle.tag_list.specs.Found.{spotIn, IsSpot};
+ghost use Rattle.model.specs.Opening.{is_some};
+ghost use Rattle.model.specs.TagList.{set_tag, remove_tag, max_key, max_tags, max_value, stored_key, tags_length, tag_contents, encode_tags, shown_tags, decode_tags};
+ghost use Rattle.tag_list.specs.Found.{spot_in, IsSpot};
 ghost use Rattle.tag_edits.specs.Exchanged.{exchanged, Exchange};
 
 use block::{read32, splice, write32};
@@ -12,8 +12,8 @@ use tag_list::{Found, TAG_COUNT_LENGTH, TAG_ENTRY_LENGTH};
 
 // Where the contents of a tag list end: behind the last value.
 fn contents_end(list: &[u8]) -> usize
-    requires { isSome (decodeTags list.now) ≡ true }
-    ensures { result ≡ length (tagContents (shownTags list.now)) }
+    requires { is_some (decode_tags list.now) ≡ true }
+    ensures { result ≡ length (tag_contents (shown_tags list.now)) }
 {
     let count = read32(list, 0);
     let mut p = TAG_COUNT_LENGTH;
@@ -40,7 +40,7 @@ fn exchange(
     u: &[u8],
 )
     requires { Exchange list.old place start held old (length entry.now) (length t.now + length u.now) }
-    ensures { list.new ≡ padTo tagsLength (exchanged place held entry.now (t.now ++ u.now) (shownTags list.old)) }
+    ensures { list.new ≡ pad_to tags_length (exchanged place held entry.now (t.now ++ u.now) (shown_tags list.old)) }
 {
     let end = contents_end(list);
     let count = read32(list, 0) - held + entry.len() / TAG_ENTRY_LENGTH;
@@ -68,9 +68,9 @@ fn entry_of(key: usize, value: usize) -> [u8; TAG_ENTRY_LENGTH]
 
 // Sets the tag of a key, which was found where it stands or would, to a value.
 pub fn set(list: &mut [u8], found: Found, key: &[u8], value: &[u8])
-    requires { (isSome (decodeTags list.old) ≡ true) × IsSpot found (spotIn key.now list.old) × (storedKey key.now ≡ true) × (length value.now ≤ maxValue)
-        × (length (setTag key.now value.now (shownTags list.old)) ≤ maxTags) }
-    ensures { list.new ≡ encodeTags (setTag key.now value.now (shownTags list.old)) }
+    requires { (is_some (decode_tags list.old) ≡ true) × IsSpot found (spot_in key.now list.old) × (stored_key key.now ≡ true) × (length value.now ≤ max_value)
+        × (length (set_tag key.now value.now (shown_tags list.old)) ≤ max_tags) }
+    ensures { list.new ≡ encode_tags (set_tag key.now value.now (shown_tags list.old)) }
 {
     let entry = entry_of(key.len(), value.len());
     let place = found.place;
@@ -93,8 +93,8 @@ pub fn set(list: &mut [u8], found: Found, key: &[u8], value: &[u8])
 
 // Removes the tag of a key, which was found where it stands or would, if the list holds it.
 pub fn delete(list: &mut [u8], found: Found, key: &[u8])
-    requires { (isSome (decodeTags list.old) ≡ true) × IsSpot found (spotIn key.now list.old) × (length key.now ≤ maxKey) }
-    ensures { list.new ≡ encodeTags (removeTag key.now (shownTags list.old)) }
+    requires { (is_some (decode_tags list.old) ≡ true) × IsSpot found (spot_in key.now list.old) × (length key.now ≤ max_key) }
+    ensures { list.new ≡ encode_tags (remove_tag key.now (shown_tags list.old)) }
 {
     if !found.held {
         return;

@@ -1,9 +1,9 @@
 // One tag set or removed, by its key.
 ghost use Rattle.std.specs.Prelude.{◌≡◌, true, not, ◌&&◌, ◌≤◌, length, leb};
 ghost use Rattle.model.specs.Numbers.{number32};
-ghost use Rattle.model.specs.Opening.{isSome, numberOf};
-ghost use Rattle.model.specs.TagList.{maxTags, maxKey, maxValue, fineKey, decodeTags};
-ghost use Rattle.model.specs.TagOutcome.{insertIn, removeIn, listWith};
+ghost use Rattle.model.specs.Opening.{is_some, number_of};
+ghost use Rattle.model.specs.TagList.{max_tags, max_key, max_value, fine_key, decode_tags};
+ghost use Rattle.model.specs.TagOutcome.{insert_in, remove_in, list_with};
 ghost use Rattle.tag_edits.specs.Answers.{Removes};
 
 use crate::exchange::{delete, set};
@@ -21,8 +21,8 @@ pub enum GivenRemoval {
 
 // Whether a list has no room for a key: it is not held, and there are as many tags as there can be.
 fn is_full(list: &[u8], held: bool) -> bool
-    requires { isSome (decodeTags list.now) ≡ true }
-    ensures { result ≡ (not held && leb maxTags (number32 list.now 0)) }
+    requires { is_some (decode_tags list.now) ≡ true }
+    ensures { result ≡ (not held && leb max_tags (number32 list.now 0)) }
 {
     if held {
         return false;
@@ -32,8 +32,8 @@ fn is_full(list: &[u8], held: bool) -> bool
 
 // Sets a key, which may come, to a value that is not long, unless there would be too many tags: 21 then, or 0.
 fn insert_fine(list: &mut [u8], key: &[u8], value: &[u8], space: &mut [u8]) -> u32
-    requires { (isSome (decodeTags list.old) ≡ true) × (fineKey key.now ≡ true) × (length value.now ≤ maxValue) × (length space.old ≡ maxKey) }
-    ensures { (result ≡ numberOf (insertIn list.old key.now value.now)) × (list.new ≡ listWith (insertIn list.old key.now value.now) list.old) }
+    requires { (is_some (decode_tags list.old) ≡ true) × (fine_key key.now ≡ true) × (length value.now ≤ max_value) × (length space.old ≡ max_key) }
+    ensures { (result ≡ number_of (insert_in list.old key.now value.now)) × (list.new ≡ list_with (insert_in list.old key.now value.now) list.old) }
 {
     let found = find_lowered(list, key, space);
     if is_full(list, found.held) {
@@ -45,8 +45,8 @@ fn insert_fine(list: &mut [u8], key: &[u8], value: &[u8], space: &mut [u8]) -> u
 
 // Sets a key to a value.
 pub fn insert(list: &mut [u8], key: &[u8], value: &[u8]) -> u32
-    ensures value { result ≡ numberOf (insertIn list.old key.now value.now) }
-    ensures list_after { list.new ≡ listWith (insertIn list.old key.now value.now) list.old }
+    ensures value { result ≡ number_of (insert_in list.old key.now value.now) }
+    ensures list_after { list.new ≡ list_with (insert_in list.old key.now value.now) list.old }
 {
     let number = fault(list, key);
     if number != 0 {
@@ -61,7 +61,7 @@ pub fn insert(list: &mut [u8], key: &[u8], value: &[u8]) -> u32
 
 // Removes a key, and writes the value that was there to the front of the output; nothing is removed if it does not fit.
 pub fn remove(list: &mut [u8], key: &[u8], out: &mut [u8]) -> GivenRemoval
-    ensures { Removes (removeIn list.old key.now (length out.old)) list.old out.old result list.new out.new }
+    ensures { Removes (remove_in list.old key.now (length out.old)) list.old out.old result list.new out.new }
 {
     let number = fault(list, key);
     if number != 0 {
@@ -73,8 +73,8 @@ pub fn remove(list: &mut [u8], key: &[u8], out: &mut [u8]) -> GivenRemoval
 
 // Removes a key, which may come, if there is room for its value.
 fn remove_fine(list: &mut [u8], key: &[u8], out: &mut [u8], space: &mut [u8]) -> GivenRemoval
-    requires { (isSome (decodeTags list.old) ≡ true) × (fineKey key.now ≡ true) × (length space.old ≡ maxKey) }
-    ensures { Removes (removeIn list.old key.now (length out.old)) list.old out.old result list.new out.new }
+    requires { (is_some (decode_tags list.old) ≡ true) × (fine_key key.now ≡ true) × (length space.old ≡ max_key) }
+    ensures { Removes (remove_in list.old key.now (length out.old)) list.old out.old result list.new out.new }
 {
     let found = find_lowered(list, key, space);
     if !found.held {

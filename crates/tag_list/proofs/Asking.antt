@@ -7,71 +7,71 @@ use Prim.Native.Nat.{ℕ, ◌+◌, ◌≤◌}
 use native.Mathlib.Omega.{arith}
 use lib.ListN.{length, length-append}
 use Rattle.model.specs.Bytes.{Bytes}
-use Rattle.model.specs.Opening.{gives, isSome}
+use Rattle.model.specs.Opening.{gives, is_some}
 use Rattle.model.specs.Questions.{mapped}
-use Rattle.model.specs.TagList.{Tag, lookUp, lower, fineKey, tagsLength, tagBodies, keysAfter, shownTags, decodeTags}
-use Rattle.model.specs.TagOutcome.{getIn, containsIn, partsWith, valuePart}
-use Rattle.tag_list.specs.Found.{spotIn, heldSize, IsSpot}
+use Rattle.model.specs.TagList.{Tag, look_up, lower, fine_key, tags_length, tag_bodies, keys_after, shown_tags, decode_tags}
+use Rattle.model.specs.TagOutcome.{get_in, contains_in, parts_with, value_part}
+use Rattle.tag_list.specs.Found.{spot_in, held_size, IsSpot}
 use Rattle.tag_list.specs.declared.finding.Found.{Found}
-use Rattle.tag_list.proofs.Bodies.{tag-bodies-append}
-use Rattle.tag_list.proofs.Lowering.{length-lower}
-use Rattle.tag_list.proofs.Parted.{partsFrom, parted, spot-parts}
-use Rattle.tag_list.proofs.Standing.{contents-within, length-contents}
-use Rattle.tag_list.proofs.Ready.{with-ready}
+use Rattle.tag_list.proofs.Bodies.{tag_bodies_append}
+use Rattle.tag_list.proofs.Lowering.{length_lower}
+use Rattle.tag_list.proofs.Parted.{parts_from, parted, spot_parts}
+use Rattle.tag_list.proofs.Standing.{contents_within, length_contents}
+use Rattle.tag_list.proofs.Ready.{with_ready}
 use Rattle.tag_list.proofs.Walk.{holds}
 
-module _ (b : Bytes) (d : isSome (decodeTags b) ≡ true) where
+module _ (b : Bytes) (d : is_some (decode_tags b) ≡ true) where
   -- a key stands, or would, within the contents
-  pub spot-within : (k : Bytes) → (spotIn k b).start ≤ tagsLength
-  spot-within k =
-      let ts = shownTags b in
+  pub spot_within : (k : Bytes) → (spot_in k b).start ≤ tags_length
+  spot_within k =
+      let ts = shown_tags b in
       let h = holds b d in
-      let p = parted k 0 (keysAfter (length ts)) ts h.valid.order in
+      let p = parted k 0 (keys_after (length ts)) ts h.valid.order in
       let f = p.parts.front in
       let r = p.parts.held ++ p.parts.back in
-      let n : length (tagBodies ts) ≡ length (tagBodies f) + length (tagBodies r) =
-      ap (λ (x : List Tag). length (tagBodies x)) p.parts.whole ∙ rw (tag-bodies-append f r) (length-append (tagBodies f) (tagBodies r)) in
-      omega (arith, p.start, contents-within ts h.valid, length-contents ts)
+      let n : length (tag_bodies ts) ≡ length (tag_bodies f) + length (tag_bodies r) =
+      ap (λ (x : List Tag). length (tag_bodies x)) p.parts.whole ∙ rw (tag_bodies_append f r) (length-append (tag_bodies f) (tag_bodies r)) in
+      omega (arith, p.start, contents_within ts h.valid, length_contents ts)
 
-  module _ (k : Bytes) (r : Found) (s : IsSpot r (spotIn k b)) where
-    pub start-within : r.start ≤ tagsLength
-    start-within = omega (arith, s.start, spot-within k)
+  module _ (k : Bytes) (r : Found) (s : IsSpot r (spot_in k b)) where
+    pub start_within : r.start ≤ tags_length
+    start_within = omega (arith, s.start, spot_within k)
 
-    pub found-size : heldSize r ≡ mapped length (lookUp k (shownTags b))
-    found-size = s.size ∙ (parted k 0 (keysAfter (length (shownTags b))) (shownTags b) (holds b d).valid.order).size
+    pub found_size : held_size r ≡ mapped length (look_up k (shown_tags b))
+    found_size = s.size ∙ (parted k 0 (keys_after (length (shown_tags b))) (shown_tags b) (holds b d).valid.order).size
 
-    pub found-held : r.held ≡ isSome (lookUp k (shownTags b))
-    found-held = go r.held r.size (lookUp k (shownTags b)) found-size
+    pub found_held : r.held ≡ is_some (look_up k (shown_tags b))
+    found_held = go r.held r.size (look_up k (shown_tags b)) found_size
       where
-        go : (h : Bool) (n : ℕ) (o : Option Bytes) → cond h (some n) none ≡ mapped length o → h ≡ isSome o
+        go : (h : Bool) (n : ℕ) (o : Option Bytes) → cond h (some n) none ≡ mapped length o → h ≡ is_some o
         go true n none e = cc
         go true n (some v) e = refl
         go false n none e = refl
         go false n (some v) e = cc
 
-  module _ (key : Bytes) (f : fineKey key ≡ true) (r : Found) (s : IsSpot r (spotIn (lower key) b)) where
-    pub contains-found : gives r.held ≡ containsIn b key
-    unfolding containsIn
-    contains-found = ap gives (found-held (lower key) r s) ∙ sym (with-ready b key (λ ts k. gives (isSome (lookUp k ts))) d f)
+  module _ (key : Bytes) (f : fine_key key ≡ true) (r : Found) (s : IsSpot r (spot_in (lower key) b)) where
+    pub contains_found : gives r.held ≡ contains_in b key
+    unfolding contains_in
+    contains_found = ap gives (found_held (lower key) r s) ∙ sym (with_ready b key (λ ts k. gives (is_some (look_up k ts))) d f)
 
     -- the value's part, where the key is held
-    got : gives (mapped (λ (n : ℕ). record { start = r.start + length key; size = n }) (heldSize r)) ≡ getIn b key
-    unfolding getIn
+    got : gives (mapped (λ (n : ℕ). record { start = r.start + length key; size = n }) (held_size r)) ≡ get_in b key
+    unfolding get_in
     got =
-        let ts = shownTags b in
-        let q = keysAfter (length ts) in
-        let e = spot-parts (lower key) 0 q ts (holds b d).valid.order in
-        rw (s.size, parts (spotIn (lower key) b).size)
-        (sym (with-ready b key (λ ts k. gives (mapped valuePart (partsWith (keysAfter (length ts)) k ts))) d f ∙ rw e))
+        let ts = shown_tags b in
+        let q = keys_after (length ts) in
+        let e = spot_parts (lower key) 0 q ts (holds b d).valid.order in
+        rw (s.size, parts (spot_in (lower key) b).size)
+        (sym (with_ready b key (λ ts k. gives (mapped value_part (parts_with (keys_after (length ts)) k ts))) d f ∙ rw e))
       where
         parts : (o : Option ℕ)
             → mapped (λ (n : ℕ). record { start = r.start + length key; size = n }) o
-            ≡ mapped valuePart (mapped (λ (n : ℕ). partsFrom (lower key) (spotIn (lower key) b).start n) o)
+            ≡ mapped value_part (mapped (λ (n : ℕ). parts_from (lower key) (spot_in (lower key) b).start n) o)
         parts none = refl
-        parts (some n) = rw (s.start, length-lower key)
+        parts (some n) = rw (s.start, length_lower key)
 
-    pub get_absent : r.held ≡ false → gives none ≡ getIn b key
+    pub get_absent : r.held ≡ false → gives none ≡ get_in b key
     get_absent h = rw h at got
 
-    pub get-found : r.held ≡ true → gives (some (record { start = r.start + length key; size = r.size })) ≡ getIn b key
-    get-found h = rw h at got
+    pub get_found : r.held ≡ true → gives (some (record { start = r.start + length key; size = r.size })) ≡ get_in b key
+    get_found h = rw h at got

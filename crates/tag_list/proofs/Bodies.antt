@@ -4,24 +4,24 @@ use mathlib.Core.List.{List, [], ◌∷◌, ◌++◌, append_assoc}
 use Prim.Native.Nat.{◌+◌, ◌*◌}
 use native.Mathlib.Omega.{arith}
 use lib.ListN.{length, length-append}
-use Rattle.model.specs.TagList.{Tag, tagEntryLength, tagEntries, tagBodies}
+use Rattle.model.specs.TagList.{Tag, tag_entry_length, tag_entries, tag_bodies}
 
-pub tag-bodies-append : (xs ys : List Tag) → tagBodies (xs ++ ys) ≡ tagBodies xs ++ tagBodies ys
-unfolding tagBodies
-tag-bodies-append [] ys = refl
-tag-bodies-append (x ∷ xs) ys = rw (tag-bodies-append xs ys) (simp append_assoc)
+pub tag_bodies_append : (xs ys : List Tag) → tag_bodies (xs ++ ys) ≡ tag_bodies xs ++ tag_bodies ys
+unfolding tag_bodies
+tag_bodies_append [] ys = refl
+tag_bodies_append (x ∷ xs) ys = rw (tag_bodies_append xs ys) (simp append_assoc)
 
-pub tag-entries-append : (xs ys : List Tag) → tagEntries (xs ++ ys) ≡ tagEntries xs ++ tagEntries ys
-unfolding tagEntries
-tag-entries-append [] ys = refl
-tag-entries-append (x ∷ xs) ys = rw (tag-entries-append xs ys) (simp append_assoc)
+pub tag_entries_append : (xs ys : List Tag) → tag_entries (xs ++ ys) ≡ tag_entries xs ++ tag_entries ys
+unfolding tag_entries
+tag_entries_append [] ys = refl
+tag_entries_append (x ∷ xs) ys = rw (tag_entries_append xs ys) (simp append_assoc)
 
 -- the bytes of a first tag's key and value, and the others'
-pub length-tag-bodies : (t : Tag) (ts : List Tag) → length (tagBodies (t ∷ ts)) ≡ length t.key + (length t.value + length (tagBodies ts))
-unfolding tagBodies
-length-tag-bodies t ts = length-append t.key (t.value ++ tagBodies ts) ∙ omega (arith, length-append t.value (tagBodies ts))
+pub length_tag_bodies : (t : Tag) (ts : List Tag) → length (tag_bodies (t ∷ ts)) ≡ length t.key + (length t.value + length (tag_bodies ts))
+unfolding tag_bodies
+length_tag_bodies t ts = length-append t.key (t.value ++ tag_bodies ts) ∙ omega (arith, length-append t.value (tag_bodies ts))
 
-pub length-tag-entries : (ts : List Tag) → length (tagEntries ts) ≡ tagEntryLength * length ts
-unfolding tagEntries
-length-tag-entries [] = refl
-length-tag-entries (t ∷ ts) = omega (arith, length-tag-entries ts)
+pub length_tag_entries : (ts : List Tag) → length (tag_entries ts) ≡ tag_entry_length * length ts
+unfolding tag_entries
+length_tag_entries [] = refl
+length_tag_entries (t ∷ ts) = omega (arith, length_tag_entries ts)

@@ -10,128 +10,128 @@ use native.Mathlib.Omega.{arith}
 use lib.ListN.{length}
 use Rattle.model.specs.declared.Order.{Order}
 use Rattle.model.specs.declared.Order.TheVariants.{Less, Equal, Greater}
-use Rattle.model.specs.Bytes.{Bytes, compareBytes}
+use Rattle.model.specs.Bytes.{Bytes, compare_bytes}
 use Rattle.model.specs.Statements.{Ascending}
 use Rattle.model.specs.Questions.{mapped}
-use Rattle.model.specs.TagList.{Tag, tag, compareTags, lookUp, setTag, removeTag, tagBodies}
-use Rattle.model.specs.TagOutcome.{TagParts, behind, partsWith}
-use Rattle.text.proofs.Order.{sameBytes-true, sameBytes-false}
-use Rattle.text.proofs.Ascending.{ascending-tail}
+use Rattle.model.specs.TagList.{Tag, tag, compare_tags, look_up, set_tag, remove_tag, tag_bodies}
+use Rattle.model.specs.TagOutcome.{TagParts, behind, parts_with}
+use Rattle.text.proofs.Order.{same_bytes_true, same_bytes_false}
+use Rattle.text.proofs.Ascending.{ascending_tail}
 use Rattle.tag_list.specs.Spot.{spot}
-use Rattle.tag_list.proofs.Keys.{KeyBelow, key-below-cons, first_below, same_key, less-differs, greater-differs, look-first, look-past, look-before}
-use Rattle.tag_list.proofs.Bodies.{length-tag-bodies}
+use Rattle.tag_list.proofs.Keys.{KeyBelow, key_below_cons, first_below, same_key, less_differs, greater_differs, look_first, look_past, look_before}
+use Rattle.tag_list.proofs.Bodies.{length_tag_bodies}
 
 -- the value of the one tag that is there, if any
-abbrev pub valueHeld : List Tag → Option Bytes
-valueHeld [] = none
-valueHeld (t ∷ ts) = some t.value
+abbrev pub value_held : List Tag → Option Bytes
+value_held [] = none
+value_held (t ∷ ts) = some t.value
 
 pub record Parted (k : Bytes) (ts : List Tag) : Type 0 where
   pub front : List Tag
   pub held : List Tag
   pub back : List Tag
   pub whole : ts ≡ front ++ (held ++ back)
-  pub set : (v : Bytes) → setTag k v ts ≡ front ++ (tag k v ∷ back)
-  pub removed : removeTag k ts ≡ front ++ back
-  pub found : lookUp k ts ≡ valueHeld held
+  pub set : (v : Bytes) → set_tag k v ts ≡ front ++ (tag k v ∷ back)
+  pub removed : remove_tag k ts ≡ front ++ back
+  pub found : look_up k ts ≡ value_held held
   pub one : (held ≡ []) ⊎ ((v : Bytes) × (held ≡ tag k v ∷ []))
 
 -- the parts, and what a search from place i and byte q gives
 pub record PartedAt (k : Bytes) (i q : ℕ) (ts : List Tag) : Type 0 where
   pub parts : Parted k ts
   pub place : (spot k i q ts).place ≡ i + length parts.front
-  pub start : (spot k i q ts).start ≡ q + length (tagBodies parts.front)
-  pub size : (spot k i q ts).size ≡ mapped length (lookUp k ts)
+  pub start : (spot k i q ts).start ≡ q + length (tag_bodies parts.front)
+  pub size : (spot k i q ts).size ≡ mapped length (look_up k ts)
 
-pub parted : (k : Bytes) (i q : ℕ) (ts : List Tag) → Ascending compareTags ts → PartedAt k i q ts
-unfolding setTag removeTag lookUp spot tagBodies
+pub parted : (k : Bytes) (i q : ℕ) (ts : List Tag) → Ascending compare_tags ts → PartedAt k i q ts
+unfolding set_tag remove_tag look_up spot tag_bodies
 parted k i q [] a = record {
   parts = record { front = []; held = []; back = []; whole = refl; set = λ v. refl; removed = refl; found = refl; one = inl refl };
   place = omega arith;
   start = omega arith;
   size = refl;
 }
-parted k i q (t ∷ ts) a = go (compareBytes k t.key) refl (parted k (i + 1) (behind q t) ts (ascending-tail compareTags t ts a))
+parted k i q (t ∷ ts) a = go (compare_bytes k t.key) refl (parted k (i + 1) (behind q t) ts (ascending_tail compare_tags t ts a))
   where
-    go : (o : Order) → compareBytes k t.key ≡ o → PartedAt k (i + 1) (behind q t) ts → PartedAt k i q (t ∷ ts)
+    go : (o : Order) → compare_bytes k t.key ≡ o → PartedAt k (i + 1) (behind q t) ts → PartedAt k i q (t ∷ ts)
     go Less e r =
-        let None-found = look-before k t ts a e in
+        let none_found = look_before k t ts a e in
         record {
           parts = record {
             front = [];
             held = [];
             back = t ∷ ts;
             whole = refl;
-            set = λ v. unfold setTag in rw e;
-            removed = unfold removeTag in rw e;
-            found = None-found;
+            set = λ v. unfold set_tag in rw e;
+            removed = unfold remove_tag in rw e;
+            found = none_found;
             one = inl refl;
           };
           place = unfold spot in rw e (omega arith);
-          start = unfold spot tagBodies in rw e (omega arith);
-          size = rw None-found (unfold spot in rw e);
+          start = unfold spot tag_bodies in rw e (omega arith);
+          size = rw none_found (unfold spot in rw e);
         }
     go Equal e r =
         let same = same_key k t.key e in
-        let found = look-first k t ts same in
+        let found = look_first k t ts same in
         record {
           parts = record {
             front = [];
             held = t ∷ [];
             back = ts;
             whole = refl;
-            set = λ v. unfold setTag in rw e;
-            removed = unfold removeTag in rw e;
+            set = λ v. unfold set_tag in rw e;
+            removed = unfold remove_tag in rw e;
             found = found;
             one = inr (t.value, λ j. record { key = sym same j; value = t.value } ∷ []);
           };
           place = unfold spot in rw e (omega arith);
-          start = unfold spot tagBodies in rw e (omega arith);
+          start = unfold spot tag_bodies in rw e (omega arith);
           size = rw found (unfold spot in rw e);
         }
     go Greater e r =
         let p = r.parts in
-        let past = look-past k t ts (greater-differs k t.key e) in
+        let past = look_past k t ts (greater_differs k t.key e) in
         record {
           parts = record {
             front = t ∷ p.front;
             held = p.held;
             back = p.back;
             whole = ap (◌∷◌ t) p.whole;
-            set = λ v. unfold setTag in rw e (ap (◌∷◌ t) (p.set v));
-            removed = unfold removeTag in rw e (ap (◌∷◌ t) p.removed);
+            set = λ v. unfold set_tag in rw e (ap (◌∷◌ t) (p.set v));
+            removed = unfold remove_tag in rw e (ap (◌∷◌ t) p.removed);
             found = past ∙ p.found;
             one = p.one;
           };
           place = unfold spot in rw e (omega (arith, r.place));
-          start = unfold spot in rw e (omega (arith, r.start, length-tag-bodies t p.front));
+          start = unfold spot in rw e (omega (arith, r.start, length_tag_bodies t p.front));
           size = rw past (unfold spot in rw e r.size);
         }
 
 -- ------------------------------------------------------------------ where key and value stand
 
 -- the parts of a tag with this key that stands at `start`, its value of n bytes
-abbrev pub partsFrom : Bytes → ℕ → ℕ → TagParts
-partsFrom k start n = record { key = record { start = start; size = length k }; value = record { start = start + length k; size = n } }
+abbrev pub parts_from : Bytes → ℕ → ℕ → TagParts
+parts_from k start n = record { key = record { start = start; size = length k }; value = record { start = start + length k; size = n } }
 
-parts_below : (k : Bytes) (q : ℕ) (ts : List Tag) → KeyBelow k ts → partsWith q k ts ≡ none
-unfolding partsWith
+parts_below : (k : Bytes) (q : ℕ) (ts : List Tag) → KeyBelow k ts → parts_with q k ts ≡ none
+unfolding parts_with
 parts_below k q [] b = refl
 parts_below k q (t ∷ ts) b =
-    rw (sameBytes-false k t.key (less-differs k t.key (b t (Memᴰ.head refl))))
+    rw (same_bytes_false k t.key (less_differs k t.key (b t (Memᴰ.head refl))))
     (parts_below k (behind q t) ts (λ u m. b u (Memᴰ.tail m)))
 
-pub spot-parts : (k : Bytes) (i q : ℕ) (ts : List Tag) → Ascending compareTags ts
-    → partsWith q k ts ≡ mapped (λ (n : ℕ). partsFrom k (spot k i q ts).start n) (spot k i q ts).size
-spot-parts k i q [] a = unfold partsWith spot in refl
-spot-parts k i q (t ∷ ts) a =
-    go (compareBytes k t.key) refl (spot-parts k (i + 1) (behind q t) ts (ascending-tail compareTags t ts a))
+pub spot_parts : (k : Bytes) (i q : ℕ) (ts : List Tag) → Ascending compare_tags ts
+    → parts_with q k ts ≡ mapped (λ (n : ℕ). parts_from k (spot k i q ts).start n) (spot k i q ts).size
+spot_parts k i q [] a = unfold parts_with spot in refl
+spot_parts k i q (t ∷ ts) a =
+    go (compare_bytes k t.key) refl (spot_parts k (i + 1) (behind q t) ts (ascending_tail compare_tags t ts a))
   where
-    go : (o : Order) → compareBytes k t.key ≡ o
-        → partsWith (behind q t) k ts ≡ mapped (λ (n : ℕ). partsFrom k (spot k (i + 1) (behind q t) ts).start n) (spot k (i + 1) (behind q t) ts).size
-        → partsWith q k (t ∷ ts) ≡ mapped (λ (n : ℕ). partsFrom k (spot k i q (t ∷ ts)).start n) (spot k i q (t ∷ ts)).size
-    go Less e r = parts_below k q (t ∷ ts) (key-below-cons k t ts e (first_below t ts a)) ∙ (unfold spot in rw e)
+    go : (o : Order) → compare_bytes k t.key ≡ o
+        → parts_with (behind q t) k ts ≡ mapped (λ (n : ℕ). parts_from k (spot k (i + 1) (behind q t) ts).start n) (spot k (i + 1) (behind q t) ts).size
+        → parts_with q k (t ∷ ts) ≡ mapped (λ (n : ℕ). parts_from k (spot k i q (t ∷ ts)).start n) (spot k i q (t ∷ ts)).size
+    go Less e r = parts_below k q (t ∷ ts) (key_below_cons k t ts e (first_below t ts a)) ∙ (unfold spot in rw e)
     go Equal e r =
         let same = same_key k t.key e in
-        unfold partsWith spot in rw (e, (sameBytes-true k t.key).1 same, same)
-    go Greater e r = unfold partsWith spot in rw (e, sameBytes-false k t.key (greater-differs k t.key e)) r
+        unfold parts_with spot in rw (e, (same_bytes_true k t.key).1 same, same)
+    go Greater e r = unfold parts_with spot in rw (e, same_bytes_false k t.key (greater_differs k t.key e)) r

@@ -9,61 +9,61 @@ use lib.ListN.{length, drop}
 use borrow.Author.Tests.{le-leb, le-ltb}
 use Rattle.model.specs.Bytes.{Bytes}
 use Rattle.model.specs.Statements.{Ascending}
-use Rattle.model.specs.TagList.{Tag, compareTags, maxTags, maxKey, maxValue, tagCountLength, tagsLength, tagBodies, tagContents, encodeTags, keysAfter}
+use Rattle.model.specs.TagList.{Tag, compare_tags, max_tags, max_key, max_value, tag_count_length, tags_length, tag_bodies, tag_contents, encode_tags, keys_after}
 use Rattle.model.specs.TagStatements.{ValidTags}
-use Rattle.text.specs.Blocks.{allZero}
-use Rattle.text.proofs.Ascending.{ascending-tail}
-use Rattle.block.proofs.Spliced.{pad-zeros}
-use Rattle.tag_list.specs.Test.{beforeNext, tagOk, tagsOk, isTagBlock}
-use Rattle.tag_list.proofs.Bodies.{length-tag-bodies}
-use Rattle.tag_list.proofs.Standing.{Stands, First, stands-first, encoded-stands, count-encoded, length-encoded, length-contents}
+use Rattle.text.specs.Blocks.{all_zero}
+use Rattle.text.proofs.Ascending.{ascending_tail}
+use Rattle.block.proofs.Spliced.{pad_zeros}
+use Rattle.tag_list.specs.Test.{before_next, tag_ok, tags_ok, is_tag_block}
+use Rattle.tag_list.proofs.Bodies.{length_tag_bodies}
+use Rattle.tag_list.proofs.Standing.{Stands, First, stands_first, encoded_stands, count_encoded, length_encoded, length_contents}
 
 module _ (b : Bytes) where
-  before-next : (p q : ℕ) (t : Tag) (ts : List Tag) → First b p q t ts → Ascending compareTags (t ∷ ts) → beforeNext b p q (suc (length ts)) ≡ true
-  unfolding beforeNext Ascending
-  before-next p q t [] f asc = refl
-  before-next p q t (u ∷ us) f asc =
-      let g = stands-first f.next in
-      rw (le-ltb (suc (suc (length us))) 2 (omega arith), f.key-size, f.value-size, f.key, g.key-size, g.key, asc.0)
+  before_next_lem : (p q : ℕ) (t : Tag) (ts : List Tag) → First b p q t ts → Ascending compare_tags (t ∷ ts) → before_next b p q (suc (length ts)) ≡ true
+  unfolding before_next Ascending
+  before_next_lem p q t [] f asc = refl
+  before_next_lem p q t (u ∷ us) f asc =
+      let g = stands_first f.next in
+      rw (le-ltb (suc (suc (length us))) 2 (omega arith), f.key_size, f.value_size, f.key, g.key_size, g.key, asc.0)
 
-  first-ok : (p q : ℕ) (t : Tag) (ts : List Tag) → First b p q t ts → Ascending compareTags (t ∷ ts) → tagOk b p q (suc (length ts)) ≡ true
-  unfolding tagOk
-  first-ok p q t ts f asc =
+  first_ok : (p q : ℕ) (t : Tag) (ts : List Tag) → First b p q t ts → Ascending compare_tags (t ∷ ts) → tag_ok b p q (suc (length ts)) ≡ true
+  unfolding tag_ok
+  first_ok p q t ts f asc =
       rw (
-        f.key-size,
-        f.value-size,
+        f.key_size,
+        f.value_size,
         f.key,
-        le-leb (length t.key) maxKey f.key-short,
-        le-leb (length t.value) maxValue f.value-short,
-        f.stored-key,
+        le-leb (length t.key) max_key f.key_short,
+        le-leb (length t.value) max_value f.value_short,
+        f.stored_key_lem,
       )
-      (before-next p q t ts f asc)
+      (before_next_lem p q t ts f asc)
 
-  none-ok : (p q : ℕ) → allZero (drop (q + length (tagBodies [])) b) ≡ true → tagsOk b p q 0 ≡ true
-  unfolding tagsOk tagBodies
-  none-ok p q z = rw add-zero at z
+  none_ok : (p q : ℕ) → all_zero (drop (q + length (tag_bodies [])) b) ≡ true → tags_ok b p q 0 ≡ true
+  unfolding tags_ok tag_bodies
+  none_ok p q z = rw add-zero at z
 
-  more-ok : (p q : ℕ) (t : Tag) (ts : List Tag) → First b p q t ts → Ascending compareTags (t ∷ ts)
-      → tagsOk b (p + 8) (q + length t.key + length t.value) (length ts) ≡ true → tagsOk b p q (suc (length ts)) ≡ true
-  unfolding tagsOk
-  more-ok p q t ts f asc rest = rw (first-ok p q t ts f asc, f.key-size, f.value-size) rest
+  more_ok : (p q : ℕ) (t : Tag) (ts : List Tag) → First b p q t ts → Ascending compare_tags (t ∷ ts)
+      → tags_ok b (p + 8) (q + length t.key + length t.value) (length ts) ≡ true → tags_ok b p q (suc (length ts)) ≡ true
+  unfolding tags_ok
+  more_ok p q t ts f asc rest = rw (first_ok p q t ts f asc, f.key_size, f.value_size) rest
 
-  pub stands-ok : (ts : List Tag) (p q : ℕ) → Stands b p q ts → Ascending compareTags ts → allZero (drop (q + length (tagBodies ts)) b) ≡ true
-      → tagsOk b p q (length ts) ≡ true
-  stands-ok [] p q s asc z = none-ok p q z
-  stands-ok (t ∷ ts) p q s asc z =
-      let f = stands-first s in
+  pub stands_ok : (ts : List Tag) (p q : ℕ) → Stands b p q ts → Ascending compare_tags ts → all_zero (drop (q + length (tag_bodies ts)) b) ≡ true
+      → tags_ok b p q (length ts) ≡ true
+  stands_ok [] p q s asc z = none_ok p q z
+  stands_ok (t ∷ ts) p q s asc z =
+      let f = stands_first s in
       let n = q + length t.key + length t.value in
-      let e : q + length (tagBodies (t ∷ ts)) ≡ n + length (tagBodies ts) = omega (arith, length-tag-bodies t ts) in
-      let rest = stands-ok ts (p + 8) n f.next (ascending-tail compareTags t ts asc) (rw e at z) in
-      more-ok p q t ts f asc rest
+      let e : q + length (tag_bodies (t ∷ ts)) ≡ n + length (tag_bodies ts) = omega (arith, length_tag_bodies t ts) in
+      let rest = stands_ok ts (p + 8) n f.next (ascending_tail compare_tags t ts asc) (rw e at z) in
+      more_ok p q t ts f asc rest
 
-pub zeros-encoded : (ts : List Tag) → allZero (drop (keysAfter (length ts) + length (tagBodies ts)) (encodeTags ts)) ≡ true
-unfolding encodeTags
-zeros-encoded ts = rw (← length-contents ts) (pad-zeros tagsLength (tagContents ts))
+pub zeros_encoded : (ts : List Tag) → all_zero (drop (keys_after (length ts) + length (tag_bodies ts)) (encode_tags ts)) ≡ true
+unfolding encode_tags
+zeros_encoded ts = rw (← length_contents ts) (pad_zeros tags_length (tag_contents ts))
 
-pub encoded-passes : (ts : List Tag) → ValidTags ts → isTagBlock (encodeTags ts) ≡ true
-unfolding isTagBlock
-encoded-passes ts v =
-    rw (length-encoded ts v, count-encoded ts v, le-leb (length ts) maxTags v.count)
-    (stands-ok (encodeTags ts) ts tagCountLength (keysAfter (length ts)) (encoded-stands ts v) v.order (zeros-encoded ts))
+pub encoded_passes : (ts : List Tag) → ValidTags ts → is_tag_block (encode_tags ts) ≡ true
+unfolding is_tag_block
+encoded_passes ts v =
+    rw (length_encoded ts v, count_encoded ts v, le-leb (length ts) max_tags v.count)
+    (stands_ok (encode_tags ts) ts tag_count_length (keys_after (length ts)) (encoded_stands ts v) v.order (zeros_encoded ts))

@@ -4,54 +4,54 @@ use mathlib.Core.Bool.{Bool, true, false}
 use mathlib.Core.List.{List}
 use native.Mathlib.Omega.{arith}
 use Rattle.model.specs.Bytes.{Bytes}
-use Rattle.model.specs.Opening.{Given, refuses, gives, isSome}
-use Rattle.model.specs.TagList.{Tag, lower, fineKey, shownTags, decodeTags}
-use Rattle.model.specs.TagOutcome.{tagList, readyKey, withKey}
-use Rattle.tag_list.specs.Found.{keyFault}
-use Rattle.tag_list.proofs.Coding.{decode_is, decode-not}
+use Rattle.model.specs.Opening.{Given, refuses, gives, is_some}
+use Rattle.model.specs.TagList.{Tag, lower, fine_key, shown_tags, decode_tags}
+use Rattle.model.specs.TagOutcome.{tag_list, ready_key, with_key}
+use Rattle.tag_list.specs.Found.{key_fault}
+use Rattle.tag_list.proofs.Coding.{decode_is, decode_not}
 
 module _ (b : Bytes) where
-  pub list-refused : isSome (decodeTags b) ≡ false → tagList b ≡ refuses 29
-  unfolding tagList
-  list-refused e = rw (decode-not b e)
+  pub list_refused : is_some (decode_tags b) ≡ false → tag_list b ≡ refuses 29
+  unfolding tag_list
+  list_refused e = rw (decode_not b e)
 
-  pub list-given : isSome (decodeTags b) ≡ true → tagList b ≡ gives (shownTags b)
-  unfolding tagList
-  list-given e = rw (decode_is b e)
+  pub list_given : is_some (decode_tags b) ≡ true → tag_list b ≡ gives (shown_tags b)
+  unfolding tag_list
+  list_given e = rw (decode_is b e)
 
   module _ (key : Bytes) where
-    pub with-ready : {A : Type 0} (f : List Tag → Bytes → Given A) → isSome (decodeTags b) ≡ true → fineKey key ≡ true
-        → withKey b key f ≡ f (shownTags b) (lower key)
-    unfolding readyKey
-    with-ready f d e = rw (list-given d, e)
+    pub with_ready : {A : Type 0} (f : List Tag → Bytes → Given A) → is_some (decode_tags b) ≡ true → fine_key key ≡ true
+        → with_key b key f ≡ f (shown_tags b) (lower key)
+    unfolding ready_key
+    with_ready f d e = rw (list_given d, e)
 
     -- ------------------------------------------------------------------ the number of what is wrong
 
-    pub fault-list : isSome (decodeTags b) ≡ false → keyFault b key ≡ 29
-    unfolding keyFault
-    fault-list d = rw (list-refused d)
+    pub fault_list : is_some (decode_tags b) ≡ false → key_fault b key ≡ 29
+    unfolding key_fault
+    fault_list d = rw (list_refused d)
 
-    pub fault-key : isSome (decodeTags b) ≡ true → fineKey key ≡ false → keyFault b key ≡ 19
-    unfolding keyFault readyKey
-    fault-key d e = rw (list-given d, e)
+    pub fault_key : is_some (decode_tags b) ≡ true → fine_key key ≡ false → key_fault b key ≡ 19
+    unfolding key_fault ready_key
+    fault_key d e = rw (list_given d, e)
 
-    pub fault-none : isSome (decodeTags b) ≡ true → fineKey key ≡ true → keyFault b key ≡ 0
-    unfolding keyFault readyKey
-    fault-none d e = rw (list-given d, e)
+    pub fault_none : is_some (decode_tags b) ≡ true → fine_key key ≡ true → key_fault b key ≡ 0
+    unfolding key_fault ready_key
+    fault_none d e = rw (list_given d, e)
 
     -- it is the refusal of whatever asks for both
-    pub with-fault : {A : Type 0} (f : List Tag → Bytes → Given A) → (keyFault b key ≡ 0 → ⊥) → withKey b key f ≡ refuses (keyFault b key)
-    with-fault f n = go (isSome (decodeTags b)) refl (fineKey key) refl
+    pub with_fault : {A : Type 0} (f : List Tag → Bytes → Given A) → (key_fault b key ≡ 0 → ⊥) → with_key b key f ≡ refuses (key_fault b key)
+    with_fault f n = go (is_some (decode_tags b)) refl (fine_key key) refl
       where
-        go : (s : Bool) → isSome (decodeTags b) ≡ s → (t : Bool) → fineKey key ≡ t → withKey b key f ≡ refuses (keyFault b key)
-        go false d t e = rw (fault-list d, list-refused d)
-        go true d false e = rw (fault-key d e, list-given d) (unfold readyKey in rw e)
-        go true d true e = absurd (n (fault-none d e))
+        go : (s : Bool) → is_some (decode_tags b) ≡ s → (t : Bool) → fine_key key ≡ t → with_key b key f ≡ refuses (key_fault b key)
+        go false d t e = rw (fault_list d, list_refused d)
+        go true d false e = rw (fault_key d e, list_given d) (unfold ready_key in rw e)
+        go true d true e = absurd (n (fault_none d e))
 
-    pub no-fault : keyFault b key ≡ 0 → (isSome (decodeTags b) ≡ true) × (fineKey key ≡ true)
-    no-fault n = go (isSome (decodeTags b)) refl (fineKey key) refl
+    pub no_fault : key_fault b key ≡ 0 → (is_some (decode_tags b) ≡ true) × (fine_key key ≡ true)
+    no_fault n = go (is_some (decode_tags b)) refl (fine_key key) refl
       where
-        go : (s : Bool) → isSome (decodeTags b) ≡ s → (t : Bool) → fineKey key ≡ t → (s ≡ true) × (t ≡ true)
-        go false d t e = absurd (let z = fault-list d in omega arith)
-        go true d false e = absurd (let z = fault-key d e in omega arith)
+        go : (s : Bool) → is_some (decode_tags b) ≡ s → (t : Bool) → fine_key key ≡ t → (s ≡ true) × (t ≡ true)
+        go false d t e = absurd (let z = fault_list d in omega arith)
+        go true d false e = absurd (let z = fault_key d e in omega arith)
         go true d true e = (refl, refl)

@@ -7,45 +7,45 @@ use lib.ListN.{length, drop}
 use borrow.Author.Tests.{leb-true, le-leb, lt-leb, eq-eqb, ne_eqb}
 use Rattle.model.specs.Bytes.{Bytes}
 use Rattle.model.specs.Numbers.{number32}
-use Rattle.model.specs.TagList.{maxTags, maxKey, maxValue, tagCountLength, tagEntryLength, tagsLength, keysAfter}
-use Rattle.text.specs.Blocks.{allZero}
+use Rattle.model.specs.TagList.{max_tags, max_key, max_value, tag_count_length, tag_entry_length, tags_length, keys_after}
+use Rattle.text.specs.Blocks.{all_zero}
 use Rattle.text.proofs.Tests.{both_true}
-use Rattle.tag_list.specs.Test.{tagOk, tagsOk, isTagBlock}
+use Rattle.tag_list.specs.Test.{tag_ok, tags_ok, is_tag_block}
 
 module _ (b : Bytes) (p q left : ℕ) where
-  pub tagsOk-none : left ≡ 0 → tagsOk b p q left ≡ allZero (drop q b)
-  unfolding tagsOk
-  tagsOk-none e = rw e
+  pub tags_ok_none : left ≡ 0 → tags_ok b p q left ≡ all_zero (drop q b)
+  unfolding tags_ok
+  tags_ok_none e = rw e
 
-  pub tagsOk-more : 0 < left → tagsOk b p q left
-      ≡ (tagOk b p q left && tagsOk b (p + tagEntryLength) (q + (number32 b p + number32 b (p + 4))) (left - 1))
-  unfolding tagsOk
-  tagsOk-more h =
+  pub tags_ok_more : 0 < left → tags_ok b p q left
+      ≡ (tag_ok b p q left && tags_ok b (p + tag_entry_length) (q + (number32 b p + number32 b (p + 4))) (left - 1))
+  unfolding tags_ok
+  tags_ok_more h =
       let e : left ≡ suc (left - 1) = omega arith in
       let d : q + (number32 b p + number32 b (p + 4)) ≡ q + number32 b p + number32 b (p + 4) = omega arith in
       go (left - 1) e d
     where
       go : (n : ℕ) → left ≡ suc n → q + (number32 b p + number32 b (p + 4)) ≡ q + number32 b p + number32 b (p + 4)
-          → tagsOk b p q left ≡ (tagOk b p q left && tagsOk b (p + tagEntryLength) (q + (number32 b p + number32 b (p + 4))) n)
+          → tags_ok b p q left ≡ (tag_ok b p q left && tags_ok b (p + tag_entry_length) (q + (number32 b p + number32 b (p + 4))) n)
       go n e d = rw (e, d)
 
-  pub tagOk-sizes : tagOk b p q left ≡ true → (number32 b p ≤ maxKey) × (number32 b (p + 4) ≤ maxValue)
-  unfolding tagOk
-  tagOk-sizes e =
+  pub tag_ok_sizes : tag_ok b p q left ≡ true → (number32 b p ≤ max_key) × (number32 b (p + 4) ≤ max_value)
+  unfolding tag_ok
+  tag_ok_sizes e =
       let k = both_true _ _ e in
       let v = both_true _ _ k.1 in
-      (leb-true (number32 b p) maxKey k.0, leb-true (number32 b (p + 4)) maxValue v.0)
+      (leb-true (number32 b p) max_key k.0, leb-true (number32 b (p + 4)) max_value v.0)
 
 -- the length, the count, and then the tags decide
 module _ (b : Bytes) where
-  pub block-length : (length b ≡ tagsLength → ⊥) → isTagBlock b ≡ false
-  unfolding isTagBlock
-  block-length h = rw (ne_eqb (length b) tagsLength h)
+  pub block_length : (length b ≡ tags_length → ⊥) → is_tag_block b ≡ false
+  unfolding is_tag_block
+  block_length h = rw (ne_eqb (length b) tags_length h)
 
-  pub block-count : length b ≡ tagsLength → maxTags < number32 b 0 → isTagBlock b ≡ false
-  unfolding isTagBlock
-  block-count l h = rw (eq-eqb (length b) tagsLength l, lt-leb (number32 b 0) maxTags h)
+  pub block_count : length b ≡ tags_length → max_tags < number32 b 0 → is_tag_block b ≡ false
+  unfolding is_tag_block
+  block_count l h = rw (eq-eqb (length b) tags_length l, lt-leb (number32 b 0) max_tags h)
 
-  pub block-tags : length b ≡ tagsLength → number32 b 0 ≤ maxTags → isTagBlock b ≡ tagsOk b tagCountLength (keysAfter (number32 b 0)) (number32 b 0)
-  unfolding isTagBlock
-  block-tags l h = rw (eq-eqb (length b) tagsLength l, le-leb (number32 b 0) maxTags h)
+  pub block_tags : length b ≡ tags_length → number32 b 0 ≤ max_tags → is_tag_block b ≡ tags_ok b tag_count_length (keys_after (number32 b 0)) (number32 b 0)
+  unfolding is_tag_block
+  block_tags l h = rw (eq-eqb (length b) tags_length l, le-leb (number32 b 0) max_tags h)

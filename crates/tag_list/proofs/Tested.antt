@@ -10,164 +10,164 @@ use lib.Seq.{length-take-le, drop-drop, take-add}
 use lib.Dec.{leb, eqb}
 use borrow.Author.Tests.{leb-true, le-leb, le-ltb, eqb-true}
 use Rattle.model.specs.declared.Order.TheVariants.{Less}
-use Rattle.model.specs.Bytes.{Bytes, compareBytes}
+use Rattle.model.specs.Bytes.{Bytes, compare_bytes}
 use Rattle.model.specs.Numbers.{le32, number32}
-use Rattle.model.specs.Opening.{isSome}
+use Rattle.model.specs.Opening.{is_some}
 use Rattle.model.specs.Statements.{Ascending}
-use Rattle.model.specs.TagList.{Tag, tag, compareTags, maxTags, maxKey, maxValue, storedKey, allStored, tagCountLength, tagsLength, tagEntries, tagBodies, encodeTags, keysAfter, tagsIn, shownTags, decodeTags}
-use Rattle.text.proofs.Tests.{both_true, less-true, same_tests}
-use Rattle.text.proofs.Blocks.{zeros-only}
+use Rattle.model.specs.TagList.{Tag, tag, compare_tags, max_tags, max_key, max_value, stored_key, all_stored, tag_count_length, tags_length, tag_entries, tag_bodies, encode_tags, keys_after, tags_in, shown_tags, decode_tags}
+use Rattle.text.proofs.Tests.{both_true, less_true, same_tests}
+use Rattle.text.proofs.Blocks.{zeros_only}
 use Rattle.record.proofs.Words.{AllBytes, bytes_drop}
-use Rattle.block.proofs.Numbers32.{le32-again, number32-drop, number32-drop-4}
-use Rattle.tag_list.specs.Test.{keySize, valueSize, nextKey, keyIn, beforeNext, tagOk, tagsOk, isTagBlock}
-use Rattle.tag_list.proofs.Bodies.{length-tag-entries}
-use Rattle.tag_list.proofs.Standing.{valid-of, encoded-parts}
-use Rattle.tag_list.proofs.Passing.{encoded-passes}
-use Rattle.tag_list.proofs.Coding.{tags-in-step, decode-some, tags-decoded}
+use Rattle.block.proofs.Numbers32.{le32_again, number32_drop, number32_drop_4}
+use Rattle.tag_list.specs.Test.{key_size_of, value_size_of, next_key, key_in, before_next, tag_ok, tags_ok, is_tag_block}
+use Rattle.tag_list.proofs.Bodies.{length_tag_entries}
+use Rattle.tag_list.proofs.Standing.{valid_of, encoded_parts}
+use Rattle.tag_list.proofs.Passing.{encoded_passes}
+use Rattle.tag_list.proofs.Coding.{tags_in_step, decode_some, tags_decoded}
 
 -- ------------------------------------------------------------------ what passes is a tag list
 
 -- the value behind the key at q whose entry stands at p
-abbrev valueAt : Bytes → ℕ → ℕ → Bytes
-valueAt b p q = take (valueSize b p) (drop (q + keySize b p) b)
+abbrev value_at : Bytes → ℕ → ℕ → Bytes
+value_at b p q = take (value_size_of b p) (drop (q + key_size_of b p) b)
 
-tags-in-at : (n : ℕ) (b : Bytes) (p q : ℕ) → tagsIn (suc n) (drop p b) (drop q b)
-    ≡ tag (keyIn b p q) (valueAt b p q) ∷ tagsIn n (drop (p + 8) b) (drop (nextKey b p q) b)
-tags-in-at n b p q =
-    let k = keySize b p in
-    let v = valueSize b p in
+tags_in_at : (n : ℕ) (b : Bytes) (p q : ℕ) → tags_in (suc n) (drop p b) (drop q b)
+    ≡ tag (key_in b p q) (value_at b p q) ∷ tags_in n (drop (p + 8) b) (drop (next_key b p q) b)
+tags_in_at n b p q =
+    let k = key_size_of b p in
+    let v = value_size_of b p in
     let e : q + (k + v) ≡ q + k + v = omega arith in
-    tags-in-step n (drop p b) (drop q b) k v (number32-drop b p) (number32-drop-4 b p)
+    tags_in_step n (drop p b) (drop q b) k v (number32_drop b p) (number32_drop_4 b p)
     ∙ rw (drop-drop k q b, drop-drop 8 p b, drop-drop (k + v) q b, e)
 
 -- a tag that passes
 record Passes (b : Bytes) (p q left : ℕ) : Type 0 where
-  key-short : keySize b p ≤ maxKey
-  value-short : valueSize b p ≤ maxValue
-  stored : storedKey (keyIn b p q) ≡ true
-  before : beforeNext b p q left ≡ true
+  key_short : key_size_of b p ≤ max_key
+  value_short : value_size_of b p ≤ max_value
+  stored : stored_key (key_in b p q) ≡ true
+  before : before_next b p q left ≡ true
 
-passes : (b : Bytes) (p q left : ℕ) → tagOk b p q left ≡ true → Passes b p q left
-unfolding tagOk
+passes : (b : Bytes) (p q left : ℕ) → tag_ok b p q left ≡ true → Passes b p q left
+unfolding tag_ok
 passes b p q left e =
-    let (key, more) = both_true (leb (keySize b p) maxKey) _ e in
-    let (value, more) = both_true (leb (valueSize b p) maxValue) _ more in
-    let (stored, before) = both_true (storedKey (keyIn b p q)) _ more in
-    record { key-short = leb-true (keySize b p) maxKey key; value-short = leb-true (valueSize b p) maxValue value; stored = stored; before = before }
+    let (key, more) = both_true (leb (key_size_of b p) max_key) _ e in
+    let (value, more) = both_true (leb (value_size_of b p) max_value) _ more in
+    let (stored, before) = both_true (stored_key (key_in b p q)) _ more in
+    record { key_short = leb-true (key_size_of b p) max_key key; value_short = leb-true (value_size_of b p) max_value value; stored = stored; before = before }
 
 -- n tags read at p and q, with nothing but zeros behind them
 record Reads (b : Bytes) (p q n : ℕ) (ts : List Tag) : Type 0 where
   count : length ts ≡ n
-  order : Ascending compareTags ts
-  stored : allStored ts ≡ true
-  entries : take (8 * n) (drop p b) ≡ tagEntries ts
+  order : Ascending compare_tags ts
+  stored : all_stored ts ≡ true
+  entries : take (8 * n) (drop p b) ≡ tag_entries ts
   zeros : ℕ
-  bodies : drop q b ≡ tagBodies ts ++ replicate zeros 0
+  bodies : drop q b ≡ tag_bodies ts ++ replicate zeros 0
 
 module _ (b : Bytes) (a : AllBytes b) where
   -- the two sizes of an entry, written again
-  entry-again : (p n : ℕ) → p + 8 * suc n ≤ length b
-      → take (8 * suc n) (drop p b) ≡ le32 (keySize b p) ++ (le32 (valueSize b p) ++ take (8 * n) (drop (p + 8) b))
-  entry-again p n h =
+  entry_again : (p n : ℕ) → p + 8 * suc n ≤ length b
+      → take (8 * suc n) (drop p b) ≡ le32 (key_size_of b p) ++ (le32 (value_size_of b p) ++ take (8 * n) (drop (p + 8) b))
+  entry_again p n h =
       let e : 8 * suc n ≡ 4 + (4 + 8 * n) = omega arith in
       let f : p + 4 + 4 ≡ p + 8 = omega arith in
-      let first : take 4 (drop p b) ≡ le32 (keySize b p) =
-      sym (le32-again (drop p b) (bytes_drop p b a) (rw length-drop (omega arith))) ∙ ap le32 (number32-drop b p) in
-      let second : take 4 (drop (p + 4) b) ≡ le32 (valueSize b p) =
-      sym (le32-again (drop (p + 4) b) (bytes_drop (p + 4) b a) (rw length-drop (omega arith))) ∙ ap le32 (number32-drop b (p + 4)) in
+      let first : take 4 (drop p b) ≡ le32 (key_size_of b p) =
+      sym (le32_again (drop p b) (bytes_drop p b a) (rw length-drop (omega arith))) ∙ ap le32 (number32_drop b p) in
+      let second : take 4 (drop (p + 4) b) ≡ le32 (value_size_of b p) =
+      sym (le32_again (drop (p + 4) b) (bytes_drop (p + 4) b a) (rw length-drop (omega arith))) ∙ ap le32 (number32_drop b (p + 4)) in
       rw (e, take-add 4 (4 + 8 * n) (drop p b), drop-drop 4 p b, take-add 4 (8 * n) (drop (p + 4) b), drop-drop 4 (p + 4) b, f, first, second)
 
   -- a tag that passes, before the others that are read
-  module _ (p q n : ℕ) (h : p + 8 * suc n ≤ length b) (l : q + (maxKey + maxValue) * suc n ≤ length b) (t : Passes b p q (suc n)) where
-    key-length : length (keyIn b p q) ≡ keySize b p
-    key-length = length-take-le (keySize b p) (drop q b) (rw length-drop (omega (arith, t.key-short)))
+  module _ (p q n : ℕ) (h : p + 8 * suc n ≤ length b) (l : q + (max_key + max_value) * suc n ≤ length b) (t : Passes b p q (suc n)) where
+    key_length : length (key_in b p q) ≡ key_size_of b p
+    key_length = length-take-le (key_size_of b p) (drop q b) (rw length-drop (omega (arith, t.key_short)))
 
-    value-length : length (valueAt b p q) ≡ valueSize b p
-    value-length = length-take-le (valueSize b p) (drop (q + keySize b p) b) (rw length-drop (omega (arith, t.key-short, t.value-short)))
+    value_length : length (value_at b p q) ≡ value_size_of b p
+    value_length = length-take-le (value_size_of b p) (drop (q + key_size_of b p) b) (rw length-drop (omega (arith, t.key_short, t.value_short)))
 
-    first_reads : (us : List Tag) → Ascending compareTags (tag (keyIn b p q) (valueAt b p q) ∷ us) → Reads b (p + 8) (nextKey b p q) n us
-        → Reads b p q (suc n) (tag (keyIn b p q) (valueAt b p q) ∷ us)
+    first_reads : (us : List Tag) → Ascending compare_tags (tag (key_in b p q) (value_at b p q) ∷ us) → Reads b (p + 8) (next_key b p q) n us
+        → Reads b p q (suc n) (tag (key_in b p q) (value_at b p q) ∷ us)
     first_reads us asc r = record {
       count = ap suc r.count;
       order = asc;
-      stored = unfold allStored in rw (t.stored, value-length, le-leb (valueSize b p) maxValue t.value-short) r.stored;
-      entries = entry-again p n h ∙ (unfold tagEntries in rw (key-length, value-length, r.entries));
+      stored = unfold all_stored in rw (t.stored, value_length, le-leb (value_size_of b p) max_value t.value_short) r.stored;
+      entries = entry_again p n h ∙ (unfold tag_entries in rw (key_length, value_length, r.entries));
       zeros = r.zeros;
       bodies =
-          sym (take-append-drop (keySize b p) (drop q b))
-          ∙ ap (λ (x : Bytes). keyIn b p q ++ x) (drop-drop (keySize b p) q b ∙ sym (take-append-drop (valueSize b p) (drop (q + keySize b p) b))
-          ∙ ap (λ (x : Bytes). valueAt b p q ++ x) (drop-drop (valueSize b p) (q + keySize b p) b ∙ r.bodies))
-          ∙ (unfold tagBodies in simp append_assoc);
+          sym (take-append-drop (key_size_of b p) (drop q b))
+          ∙ ap (λ (x : Bytes). key_in b p q ++ x) (drop-drop (key_size_of b p) q b ∙ sym (take-append-drop (value_size_of b p) (drop (q + key_size_of b p) b))
+          ∙ ap (λ (x : Bytes). value_at b p q ++ x) (drop-drop (value_size_of b p) (q + key_size_of b p) b ∙ r.bodies))
+          ∙ (unfold tag_bodies in simp append_assoc);
     }
 
   -- in order before the next, if there is one
-  before-less : (n p q : ℕ) → beforeNext b p q (suc (suc n)) ≡ true → compareBytes (keyIn b p q) (keyIn b (p + 8) (nextKey b p q)) ≡ Less
-  unfolding beforeNext
-  before-less n p q e =
-      (less-true (compareBytes (keyIn b p q) (keyIn b (p + 8) (nextKey b p q)))).0 (rw (le-ltb (suc (suc n)) 2 (omega arith)) at e)
+  before_less : (n p q : ℕ) → before_next b p q (suc (suc n)) ≡ true → compare_bytes (key_in b p q) (key_in b (p + 8) (next_key b p q)) ≡ Less
+  unfolding before_next
+  before_less n p q e =
+      (less_true (compare_bytes (key_in b p q) (key_in b (p + 8) (next_key b p q)))).0 (rw (le-ltb (suc (suc n)) 2 (omega arith)) at e)
 
-  before-read : (n p q : ℕ) → beforeNext b p q (suc n) ≡ true → Ascending compareTags (tagsIn n (drop (p + 8) b) (drop (nextKey b p q) b))
-      → Ascending compareTags (tag (keyIn b p q) (valueAt b p q) ∷ tagsIn n (drop (p + 8) b) (drop (nextKey b p q) b))
-  before-read zero p q e asc = unfold tagsIn Ascending in tt
-  before-read (suc n) p q e asc =
-      let step = tags-in-at n b (p + 8) (nextKey b p q) in
-      rw step (unfold Ascending in (before-less n p q e, rw step at asc))
+  before_read : (n p q : ℕ) → before_next b p q (suc n) ≡ true → Ascending compare_tags (tags_in n (drop (p + 8) b) (drop (next_key b p q) b))
+      → Ascending compare_tags (tag (key_in b p q) (value_at b p q) ∷ tags_in n (drop (p + 8) b) (drop (next_key b p q) b))
+  before_read zero p q e asc = unfold tags_in Ascending in tt
+  before_read (suc n) p q e asc =
+      let step = tags_in_at n b (p + 8) (next_key b p q) in
+      rw step (unfold Ascending in (before_less n p q e, rw step at asc))
 
-  none_read : (p q : ℕ) → tagsOk b p q 0 ≡ true → Reads b p q 0 (tagsIn 0 (drop p b) (drop q b))
-  unfolding tagsIn tagsOk Ascending allStored tagEntries tagBodies
+  none_read : (p q : ℕ) → tags_ok b p q 0 ≡ true → Reads b p q 0 (tags_in 0 (drop p b) (drop q b))
+  unfolding tags_in tags_ok Ascending all_stored tag_entries tag_bodies
   none_read p q e = record {
     count = refl;
     order = tt;
     stored = refl;
     entries = refl;
     zeros = length (drop q b);
-    bodies = zeros-only (drop q b) e;
+    bodies = zeros_only (drop q b) e;
   }
 
-  tags-read : (n p q : ℕ) → p + 8 * n ≤ length b → q + (maxKey + maxValue) * n ≤ length b → tagsOk b p q n ≡ true
-      → Reads b p q n (tagsIn n (drop p b) (drop q b))
-  tags-read zero p q h l e = none_read p q e
-  tags-read (suc n) p q h l e =
-      let (ok, more) = both_true (tagOk b p q (suc n)) (tagsOk b (p + 8) (nextKey b p q) n) (unfold tagsOk in e) in
+  tags_read : (n p q : ℕ) → p + 8 * n ≤ length b → q + (max_key + max_value) * n ≤ length b → tags_ok b p q n ≡ true
+      → Reads b p q n (tags_in n (drop p b) (drop q b))
+  tags_read zero p q h l e = none_read p q e
+  tags_read (suc n) p q h l e =
+      let (ok, more) = both_true (tag_ok b p q (suc n)) (tags_ok b (p + 8) (next_key b p q) n) (unfold tags_ok in e) in
       let t = passes b p q (suc n) ok in
-      let r = tags-read n (p + 8) (nextKey b p q) (omega arith) (omega (arith, t.key-short, t.value-short)) more in
-      rw (tags-in-at n b p q) (first_reads p q n h l t _ (before-read n p q t.before r.order) r)
+      let r = tags_read n (p + 8) (next_key b p q) (omega arith) (omega (arith, t.key_short, t.value_short)) more in
+      rw (tags_in_at n b p q) (first_reads p q n h l t _ (before_read n p q t.before r.order) r)
 
   -- a block is the encoding of the tags that are read of it
-  block-again : (ts : List Tag) → length b ≡ tagsLength → Reads b tagCountLength (keysAfter (number32 b 0)) (number32 b 0) ts → encodeTags ts ≡ b
-  block-again ts size r =
+  block_again : (ts : List Tag) → length b ≡ tags_length → Reads b tag_count_length (keys_after (number32 b 0)) (number32 b 0) ts → encode_tags ts ≡ b
+  block_again ts size r =
       let n = number32 b 0 in
       let z = replicate {A = ℕ} r.zeros 0 in
-      let count : le32 n ≡ take 4 b = le32-again b a (omega arith) in
-      let behind : drop 4 b ≡ tagEntries ts ++ (tagBodies ts ++ z) =
+      let count : le32 n ≡ take 4 b = le32_again b a (omega arith) in
+      let behind : drop 4 b ≡ tag_entries ts ++ (tag_bodies ts ++ z) =
       sym (take-append-drop (8 * n) (drop 4 b)) ∙ rw (r.entries, drop-drop (8 * n) 4 b, r.bodies) in
-      let whole : b ≡ le32 n ++ (tagEntries ts ++ (tagBodies ts ++ z)) = sym (take-append-drop 4 b) ∙ rw (← count, behind) in
-      let lengths : keysAfter (length ts) + length (tagBodies ts) + r.zeros ≡ tagsLength =
+      let whole : b ≡ le32 n ++ (tag_entries ts ++ (tag_bodies ts ++ z)) = sym (take-append-drop 4 b) ∙ rw (← count, behind) in
+      let lengths : keys_after (length ts) + length (tag_bodies ts) + r.zeros ≡ tags_length =
       omega (
         arith,
         ap length whole,
-        length-append (tagEntries ts) (tagBodies ts ++ z),
-        length-append (tagBodies ts) z,
-        length-tag-entries ts,
+        length-append (tag_entries ts) (tag_bodies ts ++ z),
+        length-append (tag_bodies ts) z,
+        length_tag_entries ts,
         length-replicate {A = ℕ} r.zeros 0,
       ) in
-      encoded-parts ts r.zeros lengths ∙ rw r.count (sym whole)
+      encoded_parts ts r.zeros lengths ∙ rw r.count (sym whole)
 
-  passed : isTagBlock b ≡ true → decodeTags b ≡ some (shownTags b)
-  unfolding isTagBlock shownTags
+  passed : is_tag_block b ≡ true → decode_tags b ≡ some (shown_tags b)
+  unfolding is_tag_block shown_tags
   passed e =
       let n = number32 b 0 in
-      let (size, more) = both_true (eqb (length b) tagsLength) _ e in
-      let (count, ok) = both_true (leb n maxTags) _ more in
-      let long = eqb-true (length b) tagsLength size in
-      let few = leb-true n maxTags count in
-      let ts = tagsIn n (drop tagCountLength b) (drop (keysAfter n) b) in
-      let r : Reads b tagCountLength (keysAfter n) n ts = tags-read n tagCountLength (keysAfter n) (omega arith) (omega arith) ok in
-      decode-some b ts refl (valid-of ts (omega (arith, r.count)) r.order r.stored) (block-again ts long r)
+      let (size, more) = both_true (eqb (length b) tags_length) _ e in
+      let (count, ok) = both_true (leb n max_tags) _ more in
+      let long = eqb-true (length b) tags_length size in
+      let few = leb-true n max_tags count in
+      let ts = tags_in n (drop tag_count_length b) (drop (keys_after n) b) in
+      let r : Reads b tag_count_length (keys_after n) n ts = tags_read n tag_count_length (keys_after n) (omega arith) (omega arith) ok in
+      decode_some b ts refl (valid_of ts (omega (arith, r.count)) r.order r.stored) (block_again ts long r)
 
-pub is-tag-block : (b : Bytes) → ((i : ℕ) → get_or b i 0 < 256) → isTagBlock b ≡ isSome (decodeTags b)
-is-tag-block b a = same_tests (isTagBlock b) (isSome (decodeTags b)) (λ e. rw (passed b a e)) (λ e. go (decodeTags b) refl e)
+pub is_tag_block_lem : (b : Bytes) → ((i : ℕ) → get_or b i 0 < 256) → is_tag_block b ≡ is_some (decode_tags b)
+is_tag_block_lem b a = same_tests (is_tag_block b) (is_some (decode_tags b)) (λ e. rw (passed b a e)) (λ e. go (decode_tags b) refl e)
   where
-    go : (o : Option (List Tag)) → decodeTags b ≡ o → isSome o ≡ true → isTagBlock b ≡ true
+    go : (o : Option (List Tag)) → decode_tags b ≡ o → is_some o ≡ true → is_tag_block b ≡ true
     go none d e = absurd (false≢true e)
-    go (some ts) d e = let p = tags-decoded b ts d in rw p.1 (encoded-passes ts p.0)
+    go (some ts) d e = let p = tags_decoded b ts d in rw p.1 (encoded_passes ts p.0)

@@ -8,11 +8,11 @@ use Rattle.tag_list.specs.declared.look_up.GivenCount.TheVariants as count
 use Rattle.tag_list.specs.declared.look_up.GivenTag.{GivenTag}
 use Rattle.tag_list.specs.declared.look_up.GivenTag.TheVariants as tag
 
-abbrev pub countGiven : GivenCount → Given ℕ
-countGiven (count.Refused n) = refuses n
-countGiven (count.Is n) = gives n
+abbrev pub count_given : GivenCount → Given ℕ
+count_given (count.Refused n) = refuses n
+count_given (count.Is n) = gives n
 
-abbrev pub tagGiven : GivenTag → Given (Option TagParts)
-tagGiven (tag.Refused n) = refuses n
-tagGiven tag.Absent = gives none
-tagGiven (tag.At s k t v) = gives (some (record { key = record { start = s; size = k }; value = record { start = t; size = v } }))
+abbrev pub tag_given : GivenTag → Given (Option TagParts)
+tag_given (tag.Refused n) = refuses n
+tag_given tag.Absent = gives none
+tag_given (tag.At s k t v) = gives (some (record { key = record { start = s; size = k }; value = record { start = t; size = v } }))

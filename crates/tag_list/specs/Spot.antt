@@ -1,7 +1,7 @@
 -- Where a key stands among tags, or would stand.
 use Rattle.std.specs.Prelude.{List, [], ◌∷◌, ℕ, ◌+◌, length}
 use Rattle.std.proofs.Math.Option.{Option, some, none}
-use Rattle.model.specs.Bytes.{Bytes, byOrder, compareBytes}
+use Rattle.model.specs.Bytes.{Bytes, by_order, compare_bytes}
 use Rattle.model.specs.TagList.{Tag}
 use Rattle.model.specs.TagOutcome.{behind}
 
@@ -15,7 +15,7 @@ pub record Spot : Type 0 where
 unfoldable pub spot : Bytes → ℕ → ℕ → List Tag → Spot
 spot k i q [] = record { place = i; start = q; size = none }
 spot k i q (t ∷ ts) =
-    byOrder (compareBytes k t.key)
+    by_order (compare_bytes k t.key)
     (record { place = i; start = q; size = none })
     (record { place = i; start = q; size = some (length t.value) })
     (spot k (i + 1) (behind q t) ts)

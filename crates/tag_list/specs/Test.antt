@@ -1,42 +1,42 @@
--- The test of a block, tag by tag, in the order in which it goes. That the whole says what `decodeTags` says is a law.
+-- The test of a block, tag by tag, in the order in which it goes. That the whole says what `decode_tags` says is a law.
 use Rattle.std.specs.Prelude.{Bool, true, false, cond, ◌&&◌, ℕ, zero, suc, ◌+◌, length, take, drop, leb, ltb, eqb}
 use Rattle.model.specs.declared.Order.{Order}
-use Rattle.model.specs.Bytes.{Bytes, byOrder, compareBytes}
+use Rattle.model.specs.Bytes.{Bytes, by_order, compare_bytes}
 use Rattle.model.specs.Numbers.{number32}
-use Rattle.model.specs.TagList.{maxTags, maxKey, maxValue, storedKey, tagCountLength, tagEntryLength, tagsLength, keysAfter}
-use Rattle.text.specs.Blocks.{allZero}
+use Rattle.model.specs.TagList.{max_tags, max_key, max_value, stored_key, tag_count_length, tag_entry_length, tags_length, keys_after}
+use Rattle.text.specs.Blocks.{all_zero}
 
-abbrev pub isLess : Order → Bool
-isLess o = byOrder o true false false
+abbrev pub is_less : Order → Bool
+is_less o = by_order o true false false
 
 -- the lengths of the key and of the value whose entry stands at p
-abbrev pub keySize : Bytes → ℕ → ℕ
-keySize b p = number32 b p
+abbrev pub key_size_of : Bytes → ℕ → ℕ
+key_size_of b p = number32 b p
 
-abbrev pub valueSize : Bytes → ℕ → ℕ
-valueSize b p = number32 b (p + 4)
+abbrev pub value_size_of : Bytes → ℕ → ℕ
+value_size_of b p = number32 b (p + 4)
 
 -- where the key after the one at q stands
-abbrev pub nextKey : Bytes → ℕ → ℕ → ℕ
-nextKey b p q = q + keySize b p + valueSize b p
+abbrev pub next_key : Bytes → ℕ → ℕ → ℕ
+next_key b p q = q + key_size_of b p + value_size_of b p
 
 -- the key at q whose entry stands at p
-abbrev pub keyIn : Bytes → ℕ → ℕ → Bytes
-keyIn b p q = take (keySize b p) (drop q b)
+abbrev pub key_in : Bytes → ℕ → ℕ → Bytes
+key_in b p q = take (key_size_of b p) (drop q b)
 
 -- it comes before the key of the next tag, if more than one is left
-unfoldable pub beforeNext : Bytes → ℕ → ℕ → ℕ → Bool
-beforeNext b p q left = cond (ltb left 2) true (isLess (compareBytes (keyIn b p q) (keyIn b (p + tagEntryLength) (nextKey b p q))))
+unfoldable pub before_next : Bytes → ℕ → ℕ → ℕ → Bool
+before_next b p q left = cond (ltb left 2) true (is_less (compare_bytes (key_in b p q) (key_in b (p + tag_entry_length) (next_key b p q))))
 
 -- the first of the tags left is as it should be stored
-unfoldable pub tagOk : Bytes → ℕ → ℕ → ℕ → Bool
-tagOk b p q left = leb (keySize b p) maxKey && (leb (valueSize b p) maxValue && (storedKey (keyIn b p q) && beforeNext b p q left))
+unfoldable pub tag_ok : Bytes → ℕ → ℕ → ℕ → Bool
+tag_ok b p q left = leb (key_size_of b p) max_key && (leb (value_size_of b p) max_value && (stored_key (key_in b p q) && before_next b p q left))
 
 -- all tags left are, and nothing but zeros follows
-unfoldable pub tagsOk : Bytes → ℕ → ℕ → ℕ → Bool
-tagsOk b p q zero = allZero (drop q b)
-tagsOk b p q (suc left) = tagOk b p q (suc left) && tagsOk b (p + tagEntryLength) (nextKey b p q) left
+unfoldable pub tags_ok : Bytes → ℕ → ℕ → ℕ → Bool
+tags_ok b p q zero = all_zero (drop q b)
+tags_ok b p q (suc left) = tag_ok b p q (suc left) && tags_ok b (p + tag_entry_length) (next_key b p q) left
 
-unfoldable pub isTagBlock : Bytes → Bool
-isTagBlock b =
-    eqb (length b) tagsLength && (leb (number32 b 0) maxTags && tagsOk b tagCountLength (keysAfter (number32 b 0)) (number32 b 0))
+unfoldable pub is_tag_block : Bytes → Bool
+is_tag_block b =
+    eqb (length b) tags_length && (leb (number32 b 0) max_tags && tags_ok b tag_count_length (keys_after (number32 b 0)) (number32 b 0))

@@ -1,10 +1,10 @@
 // Where a key stands in a tag list, or would.
 ghost use Rattle.std.specs.Prelude.{◌≡◌, true, length};
 ghost use Rattle.model.specs.Bytes.{put};
-ghost use Rattle.model.specs.Opening.{isSome};
-ghost use Rattle.model.specs.TagList.{maxKey, fineKey, decodeTags};
+ghost use Rattle.model.specs.Opening.{is_some};
+ghost use Rattle.model.specs.TagList.{max_key, fine_key, decode_tags};
 ghost use Rattle.model.specs.TagList as tags;
-ghost use Rattle.tag_list.specs.Found.{spotIn, IsSpot};
+ghost use Rattle.tag_list.specs.Found.{spot_in, IsSpot};
 
 use crate::key::lower;
 use crate::sizes::{TAG_COUNT_LENGTH, TAG_ENTRY_LENGTH};
@@ -23,8 +23,8 @@ pub struct Found {
 
 // Where a key stands in a tag list, or would.
 pub fn find(list: &[u8], key: &[u8]) -> Found
-    requires { isSome (decodeTags list.now) ≡ true }
-    ensures { IsSpot result (spotIn key.now list.now) }
+    requires { is_some (decode_tags list.now) ≡ true }
+    ensures { IsSpot result (spot_in key.now list.now) }
 {
     let count = read32(list, 0);
     let mut i = 0;
@@ -62,8 +62,8 @@ pub fn find(list: &[u8], key: &[u8]) -> Found
 
 // The same of a key as it comes; it is lowered into the front of `space`.
 pub fn find_lowered(list: &[u8], key: &[u8], space: &mut [u8]) -> Found
-    requires { (isSome (decodeTags list.now) ≡ true) × (fineKey key.now ≡ true) × (length space.old ≡ maxKey) }
-    ensures { IsSpot result (spotIn (tags.lower key.now) list.now) × (space.new ≡ put space.old 0 (tags.lower key.now)) }
+    requires { (is_some (decode_tags list.now) ≡ true) × (fine_key key.now ≡ true) × (length space.old ≡ max_key) }
+    ensures { IsSpot result (spot_in (tags.lower key.now) list.now) × (space.new ≡ put space.old 0 (tags.lower key.now)) }
 {
     lower(space, key);
     find(list, part(space, 0, key.len()))

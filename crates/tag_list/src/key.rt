@@ -1,7 +1,7 @@
 // Keys: those that may come, those that are stored, and capitals lowered.
 ghost use Rattle.std.specs.Prelude.{◌≡◌, cond, ◌+◌, ◌≤◌, length};
 ghost use Rattle.model.specs.Bytes.{put};
-ghost use Rattle.model.specs.TagList.{maxKey, capital, fineKey, storedKey};
+ghost use Rattle.model.specs.TagList.{max_key, capital, fine_key, stored_key};
 ghost use Rattle.model.specs.TagList as tags;
 
 use crate::sizes::MAX_KEY;
@@ -18,7 +18,7 @@ fn is_capital(x: u8) -> bool
 
 // Whether a key may come: it is short, and has no byte above 127.
 pub(crate) fn is_fine_key(key: &[u8]) -> bool
-    ensures { result ≡ fineKey key.now }
+    ensures { result ≡ fine_key key.now }
 {
     if MAX_KEY < key.len() {
         return false;
@@ -35,7 +35,7 @@ pub(crate) fn is_fine_key(key: &[u8]) -> bool
 
 // Whether a key may be stored: it has no capital either.
 pub(crate) fn is_stored_key(key: &[u8]) -> bool
-    ensures { result ≡ storedKey key.now }
+    ensures { result ≡ stored_key key.now }
 {
     if MAX_KEY < key.len() {
         return false;
@@ -77,7 +77,7 @@ pub(crate) fn lower(out: &mut [u8], key: &[u8])
 
 // Room for a key.
 pub fn no_key() -> [u8; MAX_KEY]
-    ensures { length result ≡ maxKey }
+    ensures { length result ≡ max_key }
 {
     [0; MAX_KEY]
 }

@@ -1,11 +1,11 @@
 // What a tag list holds: how many tags, one by one, and by key.
 ghost use Rattle.std.specs.Prelude.{◌≡◌, true, ◌<◌, length};
-ghost use Rattle.model.specs.Opening.{gives, isSome};
-ghost use Rattle.model.specs.TagList.{keysAfter, shownTags, decodeTags};
-ghost use Rattle.model.specs.TagOutcome.{partsAt, tagCountIn, tagAtIn, getIn, containsIn};
-ghost use Rattle.accessors.specs.Answers.{partGiven, boolGiven};
-ghost use Rattle.tag_list.specs.Found.{keyFault};
-ghost use Rattle.tag_list.specs.Answers.{countGiven, tagGiven};
+ghost use Rattle.model.specs.Opening.{gives, is_some};
+ghost use Rattle.model.specs.TagList.{keys_after, shown_tags, decode_tags};
+ghost use Rattle.model.specs.TagOutcome.{parts_at, tag_count_in, tag_at_in, get_in, contains_in};
+ghost use Rattle.accessors.specs.Answers.{part_given, bool_given};
+ghost use Rattle.tag_list.specs.Found.{key_fault};
+ghost use Rattle.tag_list.specs.Answers.{count_given, tag_given};
 
 use crate::finding::find_lowered;
 use crate::key::{is_fine_key, no_key};
@@ -36,7 +36,7 @@ pub enum GivenTag {
 
 // How many tags a list holds.
 pub fn counts(list: &[u8]) -> GivenCount
-    ensures { countGiven result ≡ tagCountIn list.now }
+    ensures { count_given result ≡ tag_count_in list.now }
 {
     if !is_tag_list(list) {
         return GivenCount::Refused(29);
@@ -46,8 +46,8 @@ pub fn counts(list: &[u8]) -> GivenCount
 
 // The tag at a place below the count.
 fn tag_within(list: &[u8], place: usize) -> GivenTag
-    requires { (isSome (decodeTags list.now) ≡ true) × (place < length (shownTags list.now)) }
-    ensures { tagGiven result ≡ gives (partsAt (keysAfter (length (shownTags list.now))) (shownTags list.now) place) }
+    requires { (is_some (decode_tags list.now) ≡ true) × (place < length (shown_tags list.now)) }
+    ensures { tag_given result ≡ gives (parts_at (keys_after (length (shown_tags list.now))) (shown_tags list.now) place) }
 {
     let mut p = TAG_COUNT_LENGTH;
     let mut q = TAG_COUNT_LENGTH + TAG_ENTRY_LENGTH * read32(list, 0);
@@ -68,7 +68,7 @@ fn tag_within(list: &[u8], place: usize) -> GivenTag
 
 // The tag at a place, in ascending order of keys, counted from 0.
 pub fn tag_place(list: &[u8], place: usize) -> GivenTag
-    ensures { tagGiven result ≡ tagAtIn list.now place }
+    ensures { tag_given result ≡ tag_at_in list.now place }
 {
     if !is_tag_list(list) {
         return GivenTag::Refused(29);
@@ -81,7 +81,7 @@ pub fn tag_place(list: &[u8], place: usize) -> GivenTag
 
 // What is wrong with a list or a key that comes, as a number: 29 for the list, then 19 for the key, or 0.
 pub fn fault(list: &[u8], key: &[u8]) -> u32
-    ensures { result ≡ keyFault list.now key.now }
+    ensures { result ≡ key_fault list.now key.now }
 {
     if !is_tag_list(list) {
         return 29;
@@ -94,7 +94,7 @@ pub fn fault(list: &[u8], key: &[u8]) -> u32
 
 // Where the value of a key stands.
 pub fn get(list: &[u8], key: &[u8]) -> GivenPart
-    ensures { partGiven result ≡ getIn list.now key.now }
+    ensures { part_given result ≡ get_in list.now key.now }
 {
     let number = fault(list, key);
     if number != 0 {
@@ -113,7 +113,7 @@ pub fn get(list: &[u8], key: &[u8]) -> GivenPart
 
 // Whether a list holds a key.
 pub fn contains_key(list: &[u8], key: &[u8]) -> GivenBool
-    ensures { boolGiven result ≡ containsIn list.now key.now }
+    ensures { bool_given result ≡ contains_in list.now key.now }
 {
     let number = fault(list, key);
     if number != 0 {

@@ -7,45 +7,45 @@ use native.Mathlib.Omega.{arith}
 use lib.ListN.{length, get_or}
 use Rattle.model.specs.declared.Order.{Order}
 use Rattle.model.specs.declared.Order.TheVariants.{Less, Equal, Greater}
-use Rattle.model.specs.Bytes.{byOrder, compareNumbers}
+use Rattle.model.specs.Bytes.{by_order, compare_numbers}
 use Rattle.model.specs.Record.{ascends}
 use Rattle.model.specs.Statements.{Ascending}
-use Rattle.text.proofs.Order.{StrictOrder, opposite, compared-numbers}
-use Rattle.text.proofs.Ascending.{ascending-tail, ascending-below}
+use Rattle.text.proofs.Order.{StrictOrder, opposite, compared_numbers}
+use Rattle.text.proofs.Ascending.{ascending_tail, ascending_below}
 
 module _ {A : Type 0} (x : A) where
-  pub member-cons : (y : A) (ys : List A) → (x ≡ y) ⊎ Memᴰ x ys ↔ Memᴰ x (y ∷ ys)
-  member-cons y ys = (⊎_elim mathlib.Core.List.Memᴰ.head mathlib.Core.List.Memᴰ.tail, mathlib.Core.List.Memᴰ.cases_cons)
+  pub member_cons : (y : A) (ys : List A) → (x ≡ y) ⊎ Memᴰ x ys ↔ Memᴰ x (y ∷ ys)
+  member_cons y ys = (⊎_elim mathlib.Core.List.Memᴰ.head mathlib.Core.List.Memᴰ.tail, mathlib.Core.List.Memᴰ.cases_cons)
 
-  pub member-append : (ys zs : List A) → Memᴰ x ys ⊎ Memᴰ x zs ↔ Memᴰ x (ys ++ zs)
-  member-append ys zs = (⊎_elim (mathlib.Core.List.Memᴰ.append_left zs) (mathlib.Core.List.Memᴰ.append_right ys), mathlib.Core.List.Memᴰ.append_cases ys)
+  pub member_append : (ys zs : List A) → Memᴰ x ys ⊎ Memᴰ x zs ↔ Memᴰ x (ys ++ zs)
+  member_append ys zs = (⊎_elim (mathlib.Core.List.Memᴰ.append_left zs) (mathlib.Core.List.Memᴰ.append_right ys), mathlib.Core.List.Memᴰ.append_cases ys)
 
 module _ {A B : Type 0} (f : A → B) where
-  pub member-map : (xs : List A) (x : A) → Memᴰ x xs → Memᴰ (f x) (map f xs)
-  member-map [] x m = absurd (mathlib.Core.List.Memᴰ.not-nil m)
-  member-map (y ∷ ys) x m =
+  pub member_map : (xs : List A) (x : A) → Memᴰ x xs → Memᴰ (f x) (map f xs)
+  member_map [] x m = absurd (mathlib.Core.List.Memᴰ.not-nil m)
+  member_map (y ∷ ys) x m =
       ⊎_elim
       (λ (e : x ≡ y). mathlib.Core.List.Memᴰ.head (ap f e))
-      (λ (n : Memᴰ x ys). mathlib.Core.List.Memᴰ.tail (member-map ys x n))
+      (λ (n : Memᴰ x ys). mathlib.Core.List.Memᴰ.tail (member_map ys x n))
       (mathlib.Core.List.Memᴰ.cases_cons m)
 
-  pub map-member : (xs : List A) (y : B) → Memᴰ y (map f xs) → (x : A) × Memᴰ x xs × (y ≡ f x)
-  map-member [] y m = absurd (mathlib.Core.List.Memᴰ.not-nil m)
-  map-member (x ∷ xs) y m =
+  pub map_member : (xs : List A) (y : B) → Memᴰ y (map f xs) → (x : A) × Memᴰ x xs × (y ≡ f x)
+  map_member [] y m = absurd (mathlib.Core.List.Memᴰ.not-nil m)
+  map_member (x ∷ xs) y m =
       ⊎_elim
       (λ (e : y ≡ f x). (x, mathlib.Core.List.Memᴰ.head refl, e))
-      (λ (n : Memᴰ y (map f xs)). let r = map-member xs y n in (r.0, mathlib.Core.List.Memᴰ.tail r.1, r.2))
+      (λ (n : Memᴰ y (map f xs)). let r = map_member xs y n in (r.0, mathlib.Core.List.Memᴰ.tail r.1, r.2))
       (mathlib.Core.List.Memᴰ.cases_cons m)
 
 module _ {A : Type 0} (d : A) where
-  pub getD-member : (xs : List A) (i : ℕ) → i < length xs → Memᴰ (get_or xs i d) xs
-  getD-member [] i h = absurd (omega arith)
-  getD-member (x ∷ xs) zero h = mathlib.Core.List.Memᴰ.head refl
-  getD-member (x ∷ xs) (suc i) h = mathlib.Core.List.Memᴰ.tail (getD-member xs i (omega arith))
+  pub get_or_member : (xs : List A) (i : ℕ) → i < length xs → Memᴰ (get_or xs i d) xs
+  get_or_member [] i h = absurd (omega arith)
+  get_or_member (x ∷ xs) zero h = mathlib.Core.List.Memᴰ.head refl
+  get_or_member (x ∷ xs) (suc i) h = mathlib.Core.List.Memᴰ.tail (get_or_member xs i (omega arith))
 
-  pub member-getD : (xs : List A) (x : A) → Memᴰ x xs → (i : ℕ) × (i < length xs) × (get_or xs i d ≡ x)
-  member-getD [] x m = absurd (mathlib.Core.List.Memᴰ.not-nil m)
-  member-getD (y ∷ ys) x m = go (mathlib.Core.List.Memᴰ.cases_cons m) (member-getD ys x)
+  pub member_get_or : (xs : List A) (x : A) → Memᴰ x xs → (i : ℕ) × (i < length xs) × (get_or xs i d ≡ x)
+  member_get_or [] x m = absurd (mathlib.Core.List.Memᴰ.not-nil m)
+  member_get_or (y ∷ ys) x m = go (mathlib.Core.List.Memᴰ.cases_cons m) (member_get_or ys x)
     where
       go : (x ≡ y) ⊎ Memᴰ x ys → (Memᴰ x ys → (i : ℕ) × (i < length ys) × (get_or ys i d ≡ x))
           → (i : ℕ) × (i < length (y ∷ ys)) × (get_or (y ∷ ys) i d ≡ x)
@@ -53,30 +53,30 @@ module _ {A : Type 0} (d : A) where
       go (inr n) rest = let r = rest n in (suc r.0, omega arith, r.2)
 
 -- a map that keeps the order of the list's members keeps the test
-pub ascends-map : {A B : Type 0} (cmp : A → A → Order) (cmp' : B → B → Order) (f : A → B) (xs : List A)
+pub ascends_map : {A B : Type 0} (cmp : A → A → Order) (cmp' : B → B → Order) (f : A → B) (xs : List A)
     → ((x y : A) → Memᴰ x xs → Memᴰ y xs → cmp' (f x) (f y) ≡ cmp x y) → ascends cmp' (map f xs) ≡ ascends cmp xs
 unfolding ascends
-ascends-map cmp cmp' f [] h = refl
-ascends-map cmp cmp' f (x ∷ []) h = refl
-ascends-map cmp cmp' f (x ∷ y ∷ ys) h =
+ascends_map cmp cmp' f [] h = refl
+ascends_map cmp cmp' f (x ∷ []) h = refl
+ascends_map cmp cmp' f (x ∷ y ∷ ys) h =
     rw (
       h x y (mathlib.Core.List.Memᴰ.head refl) (mathlib.Core.List.Memᴰ.tail (mathlib.Core.List.Memᴰ.head refl)),
-      ascends-map cmp cmp' f (y ∷ ys) (λ u v m n. h u v (mathlib.Core.List.Memᴰ.tail m) (mathlib.Core.List.Memᴰ.tail n)),
+      ascends_map cmp cmp' f (y ∷ ys) (λ u v m n. h u v (mathlib.Core.List.Memᴰ.tail m) (mathlib.Core.List.Memᴰ.tail n)),
     )
 
 module _ {A : Type 0} {cmp : A → A → Order} (ord : StrictOrder cmp) (d : A) where
-  pub ascending-getD : (xs : List A) (i j : ℕ) → Ascending cmp xs → i < j → j < length xs → cmp (get_or xs i d) (get_or xs j d) ≡ Less
-  ascending-getD xs i zero a h k = absurd (omega arith)
-  ascending-getD [] i (suc j) a h k = absurd (omega arith)
-  ascending-getD (x ∷ xs) zero (suc j) a h k = ascending-below ord x xs a (get_or xs j d) (getD-member d xs j (omega arith))
-  ascending-getD (x ∷ xs) (suc i) (suc j) a h k = ascending-getD xs i j (ascending-tail cmp x xs a) (omega arith) (omega arith)
+  pub ascending_get_or : (xs : List A) (i j : ℕ) → Ascending cmp xs → i < j → j < length xs → cmp (get_or xs i d) (get_or xs j d) ≡ Less
+  ascending_get_or xs i zero a h k = absurd (omega arith)
+  ascending_get_or [] i (suc j) a h k = absurd (omega arith)
+  ascending_get_or (x ∷ xs) zero (suc j) a h k = ascending_below ord x xs a (get_or xs j d) (get_or_member d xs j (omega arith))
+  ascending_get_or (x ∷ xs) (suc i) (suc j) a h k = ascending_get_or xs i j (ascending_tail cmp x xs a) (omega arith) (omega arith)
 
   -- elements compare as their places do
-  pub ascending-places : (xs : List A) (i j : ℕ) → Ascending cmp xs → i < length xs → j < length xs
-      → cmp (get_or xs i d) (get_or xs j d) ≡ compareNumbers i j
-  ascending-places xs i j a h k = go (compareNumbers i j) refl (compared-numbers i j)
+  pub ascending_places : (xs : List A) (i j : ℕ) → Ascending cmp xs → i < length xs → j < length xs
+      → cmp (get_or xs i d) (get_or xs j d) ≡ compare_numbers i j
+  ascending_places xs i j a h k = go (compare_numbers i j) refl (compared_numbers i j)
     where
-      go : (o : Order) → compareNumbers i j ≡ o → byOrder (compareNumbers i j) (i < j) (i ≡ j) (j < i) → cmp (get_or xs i d) (get_or xs j d) ≡ o
-      go Less e c = ascending-getD xs i j a (rw e at c) k
-      go Equal e c = let q : i ≡ j = rw e at c in rw q (ord.refl-equal (get_or xs j d))
-      go Greater e c = ord.flip (get_or xs j d) (get_or xs i d) ∙ ap opposite (ascending-getD xs j i a (rw e at c) h)
+      go : (o : Order) → compare_numbers i j ≡ o → by_order (compare_numbers i j) (i < j) (i ≡ j) (j < i) → cmp (get_or xs i d) (get_or xs j d) ≡ o
+      go Less e c = ascending_get_or xs i j a (rw e at c) k
+      go Equal e c = let q : i ≡ j = rw e at c in rw q (ord.refl_equal (get_or xs j d))
+      go Greater e c = ord.flip (get_or xs j d) (get_or xs i d) ∙ ap opposite (ascending_get_or xs j i a (rw e at c) h)

@@ -8,40 +8,40 @@ use native.Mathlib.Omega.{arith}
 use lib.ListN.{length, length-append}
 use Rattle.model.specs.declared.Order.{Order}
 use Rattle.model.specs.declared.Order.TheVariants.{Less, Equal, Greater}
-use Rattle.model.specs.Bytes.{Bytes, byOrder}
-use Rattle.model.specs.Record.{insert, insertAll, bodies}
+use Rattle.model.specs.Bytes.{Bytes, by_order}
+use Rattle.model.specs.Record.{insert, insert_all, bodies}
 use Rattle.model.specs.Statements.{Ascending}
 use Rattle.text.proofs.Order.{StrictOrder}
-use Rattle.text.proofs.Ascending.{ascending-tail, ascending-below, less-irrefl}
+use Rattle.text.proofs.Ascending.{ascending_tail, ascending_below, less_irrefl}
 
 abbrev pub total : {A : Type 0} → (A → ℕ) → List A → ℕ
 total f [] = 0
 total f (x ∷ xs) = f x + total f xs
 
 -- a count, and a length
-pub total-count : {A : Type 0} (xs : List A) → total (λ (x : A). 1) xs ≡ length xs
-total-count [] = refl
-total-count (x ∷ xs) = omega (arith, total-count xs)
+pub total_count : {A : Type 0} (xs : List A) → total (λ (x : A). 1) xs ≡ length xs
+total_count [] = refl
+total_count (x ∷ xs) = omega (arith, total_count xs)
 
-pub total-bodies : (ns : List Bytes) → total length ns ≡ length (bodies ns)
-total-bodies [] = refl
-total-bodies (n ∷ ns) = omega (arith, total-bodies ns, length-append n (bodies ns))
+pub total_bodies : (ns : List Bytes) → total length ns ≡ length (bodies ns)
+total_bodies [] = refl
+total_bodies (n ∷ ns) = omega (arith, total_bodies ns, length-append n (bodies ns))
 
 module _ {A : Type 0} (cmp : A → A → Order) (f : A → ℕ) where
-  pub total-insert : (x : A) (ys : List A) → total f (insert cmp x ys) ≤ f x + total f ys
+  pub total_insert : (x : A) (ys : List A) → total f (insert cmp x ys) ≤ f x + total f ys
   unfolding insert
-  total-insert x [] = omega arith
-  total-insert x (y ∷ ys) = go (cmp x y) (total-insert x ys)
+  total_insert x [] = omega arith
+  total_insert x (y ∷ ys) = go (cmp x y) (total_insert x ys)
     where
-      go : (o : Order) → total f (insert cmp x ys) ≤ f x + total f ys → total f (byOrder o (x ∷ y ∷ ys) (y ∷ ys) (y ∷ insert cmp x ys)) ≤ f x + total f (y ∷ ys)
+      go : (o : Order) → total f (insert cmp x ys) ≤ f x + total f ys → total f (by_order o (x ∷ y ∷ ys) (y ∷ ys) (y ∷ insert cmp x ys)) ≤ f x + total f (y ∷ ys)
       go Less h = omega arith
       go Equal h = omega arith
       go Greater h = omega arith
 
-  pub total-insertAll : (xs ys : List A) → total f (insertAll cmp xs ys) ≤ total f xs + total f ys
-  unfolding insertAll
-  total-insertAll [] ys = omega arith
-  total-insertAll (x ∷ xs) ys = omega (arith, total-insertAll xs (insert cmp x ys), total-insert x ys)
+  pub total_insert_all : (xs ys : List A) → total f (insert_all cmp xs ys) ≤ total f xs + total f ys
+  unfolding insert_all
+  total_insert_all [] ys = omega arith
+  total_insert_all (x ∷ xs) ys = omega (arith, total_insert_all xs (insert cmp x ys), total_insert x ys)
 
 -- ------------------------------------------------------------------ a part of the members
 
@@ -50,15 +50,15 @@ abbrev pub Once : {A : Type 0} → List A → Type 0
 Once [] = Unit {0}
 Once (x ∷ xs) = (Memᴰ x xs → ⊥) × Once xs
 
-pub ascending-once : {A : Type 0} {cmp : A → A → Order} → StrictOrder cmp → (xs : List A) → Ascending cmp xs → Once xs
-ascending-once ord [] a = tt
-ascending-once {A} {cmp} ord (x ∷ xs) a =
-    (λ m. less-irrefl ord x (ascending-below ord x xs a x m), ascending-once ord xs (ascending-tail cmp x xs a))
+pub ascending_once : {A : Type 0} {cmp : A → A → Order} → StrictOrder cmp → (xs : List A) → Ascending cmp xs → Once xs
+ascending_once ord [] a = tt
+ascending_once {A} {cmp} ord (x ∷ xs) a =
+    (λ m. less_irrefl ord x (ascending_below ord x xs a x m), ascending_once ord xs (ascending_tail cmp x xs a))
 
 module _ {A : Type 0} (f : A → ℕ) where
-  pub total-append : (xs ys : List A) → total f (xs ++ ys) ≡ total f xs + total f ys
-  total-append [] ys = omega arith
-  total-append (x ∷ xs) ys = omega (arith, total-append xs ys)
+  pub total_append : (xs ys : List A) → total f (xs ++ ys) ≡ total f xs + total f ys
+  total_append [] ys = omega arith
+  total_append (x ∷ xs) ys = omega (arith, total_append xs ys)
 
   -- all but one x, and every other member
   record Without (x : A) (all : List A) : Type 0 where
@@ -84,10 +84,10 @@ module _ {A : Type 0} (f : A → ℕ) where
             keeps = λ y d w. ⊎_elim (λ (q : y ≡ z). Memᴰ.head q) (λ (q : Memᴰ y zs). Memᴰ.tail (r.keeps y d q)) (Memᴰ.cases_cons w);
           }
 
-  pub total-part : (xs all : List A) → Once xs → ((y : A) → Memᴰ y xs → Memᴰ y all) → total f xs ≤ total f all
-  total-part [] all o h = omega arith
-  total-part (x ∷ xs) all o h =
+  pub total_part : (xs all : List A) → Once xs → ((y : A) → Memᴰ y xs → Memᴰ y all) → total f xs ≤ total f all
+  total_part [] all o h = omega arith
+  total_part (x ∷ xs) all o h =
       let r = remove x all (h x (Memᴰ.head refl)) in
       let l : total f xs ≤ total f r.rest =
-      total-part xs r.rest o.1 (λ y m. r.keeps y (λ e. o.0 (Memᴰ.cast (sym e) m)) (h y (Memᴰ.tail m))) in
+      total_part xs r.rest o.1 (λ y m. r.keeps y (λ e. o.0 (Memᴰ.cast (sym e) m)) (h y (Memᴰ.tail m))) in
       omega (arith, r.sum)

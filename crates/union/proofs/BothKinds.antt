@@ -11,23 +11,23 @@ use Rattle.model.specs.declared.Kind.{Kind}
 use Rattle.model.specs.declared.Kind.TheVariants.{Subgraph, Translation}
 use Rattle.model.specs.Bytes.{Bytes}
 use Rattle.model.specs.Record.{GraphName}
-use Rattle.model.specs.Statements.{bySubgraph, byEither}
+use Rattle.model.specs.Statements.{by_subgraph, by_either}
 use Rattle.search.specs.Table.{Merged, Mergeable}
 use Rattle.search.specs.Related.{either}
-use Rattle.search.proofs.Parts.{behind-is, back_fits, back-front, back-part}
-use Rattle.search.proofs.StepTables.{table_same, tables-mergeable, merged-table}
-use Rattle.union.specs.Steps.{pairsOfKind, pairsOfBoth, Gatherable, Gathered, byKind, byQuestion}
+use Rattle.search.proofs.Parts.{behind_is, back_fits, back_front, back_part}
+use Rattle.search.proofs.StepTables.{table_same, tables_mergeable, merged_table}
+use Rattle.union.specs.Steps.{pairs_of_kind, pairs_of_both, Gatherable, Gathered, by_kind, by_question}
 
 -- ------------------------------------------------------------------ the relations
 
 apart : Subgraph ≡ Translation → ⊥
 apart e = let z : ◌≡◌ {A = ℕ} 0 1 = cc in omega arith
 
-by-subgraph : (g h : GraphName) (k : Kind) (a b : Bytes) → byKind Subgraph g h k a b ↔ bySubgraph g h k a b
-by-subgraph g h Subgraph a b = (⊎_elim (λ w. inl w.1) (λ w. inr w.1), ⊎_elim (λ w. inl (refl, w)) (λ w. inr (refl, w)))
-by-subgraph g h Translation a b = (⊎_elim (λ w. apart (sym w.0)) (λ w. apart (sym w.0)), λ w. absurd w)
+by_subgraph_lem : (g h : GraphName) (k : Kind) (a b : Bytes) → by_kind Subgraph g h k a b ↔ by_subgraph g h k a b
+by_subgraph_lem g h Subgraph a b = (⊎_elim (λ w. inl w.1) (λ w. inr w.1), ⊎_elim (λ w. inl (refl, w)) (λ w. inr (refl, w)))
+by_subgraph_lem g h Translation a b = (⊎_elim (λ w. apart (sym w.0)) (λ w. apart (sym w.0)), λ w. absurd w)
 
-by_both : (g h : GraphName) (k : Kind) (a b : Bytes) → either (byKind Subgraph g h) (byKind Translation g h) k a b ↔ byEither g h k a b
+by_both : (g h : GraphName) (k : Kind) (a b : Bytes) → either (by_kind Subgraph g h) (by_kind Translation g h) k a b ↔ by_either g h k a b
 by_both g h Subgraph a b = (
   ⊎_elim (⊎_elim (λ w. inl w.1) (λ w. inr w.1)) (⊎_elim (λ w. absurd (apart w.0)) (λ w. absurd (apart w.0))),
   ⊎_elim (λ w. inl (inl (refl, w))) (λ w. inl (inr (refl, w))),
@@ -39,25 +39,25 @@ by_both g h Translation a b = (
 
 -- ------------------------------------------------------------------ the steps
 
-pub subgraph-steps : (b c : Bytes) (numbers : List ℕ) (full : Bool) (out : List ℕ) (r : ℕ) → full ≡ false
-    → Gathered b c numbers (byKind Subgraph) (pairsOfKind Subgraph b c) out r → Gathered b c numbers (byQuestion full) (pairsOfBoth b c) out r
-subgraph-steps b c numbers full out r e w = rw e (record {
+pub subgraph_steps : (b c : Bytes) (numbers : List ℕ) (full : Bool) (out : List ℕ) (r : ℕ) → full ≡ false
+    → Gathered b c numbers (by_kind Subgraph) (pairs_of_kind Subgraph b c) out r → Gathered b c numbers (by_question full) (pairs_of_both b c) out r
+subgraph_steps b c numbers full out r e w = rw e (record {
   count = omega (arith, w.count);
-  steps = λ g h d f size name n. table_same (take r out) size name (byKind Subgraph g h) (bySubgraph g h) (w.steps g h d f size name n) (by-subgraph g h);
+  steps = λ g h d f size name n. table_same (take r out) size name (by_kind Subgraph g h) (by_subgraph g h) (w.steps g h d f size name n) (by_subgraph_lem g h);
 })
 
 -- the subgraph steps in the front of a table, and the translation steps behind them
-module _ (b c : Bytes) (numbers : List ℕ) (steps rows l d rest : List ℕ) (m n : ℕ) (ready : Gatherable b c numbers (pairsOfBoth b c) rows steps)
+module _ (b c : Bytes) (numbers : List ℕ) (steps rows l d rest : List ℕ) (m n : ℕ) (ready : Gatherable b c numbers (pairs_of_both b c) rows steps)
     (long : length l ≡ length rows) (long' : length d ≡ length (take (length l - m) (drop m l)))
-    (one : Gathered b c numbers (byKind Subgraph) (pairsOfKind Subgraph b c) l m) (two : Gathered b c numbers (byKind Translation) (pairsOfKind Translation b c) d n) where
+    (one : Gathered b c numbers (by_kind Subgraph) (pairs_of_kind Subgraph b c) l m) (two : Gathered b c numbers (by_kind Translation) (pairs_of_kind Translation b c) d n) where
   within : m ≤ length l
-  within = omega (arith, one.count, ready.rows-room)
+  within = omega (arith, one.count, ready.rows_room)
 
   few : n ≤ length d
-  few = omega (arith, two.count, one.count, ready.rows-room, rw (behind-is m l, length-drop m l) at long')
+  few = omega (arith, two.count, one.count, ready.rows_room, rw (behind_is m l, length-drop m l) at long')
 
-  pub both-fit : m + n ≤ length (take m l ++ (d ++ rest))
-  both-fit = back_fits l d rest m n within few
+  pub both_fit : m + n ≤ length (take m l ++ (d ++ rest))
+  both_fit = back_fits l d rest m n within few
 
   abbrev first : List ℕ
   first = take m (take (m + n) (take m l ++ (d ++ rest)))
@@ -68,24 +68,24 @@ module _ (b c : Bytes) (numbers : List ℕ) (steps rows l d rest : List ℕ) (m 
   lengths : (length (take m l) ≡ m) × (length (take n d) ≡ n)
   lengths = (length-take-le m l within, length-take-le n d few)
 
-  pub both-mergeable : (out : List ℕ) → length out ≡ length steps → (m ≤ length (take (m + n) (take m l ++ (d ++ rest)))) × Mergeable first second out
-  both-mergeable out same =
+  pub both_mergeable : (out : List ℕ) → length out ≡ length steps → (m ≤ length (take (m + n) (take m l ++ (d ++ rest)))) × Mergeable first second out
+  both_mergeable out same =
       let t = ready.records in
       let s = one.steps t.g t.h t.first t.second ready.size ready.name ready.numbered in
       let u = two.steps t.g t.h t.first t.second ready.size ready.name ready.numbered in (
-        omega (arith, length-take-le (m + n) (take m l ++ (d ++ rest)) both-fit),
-        rw (back-front l d rest m n within few, back-part l d rest m n within few)
-            (tables-mergeable (take m l) (take n d) ready.size ready.name _ _ s u out (omega (arith, lengths, one.count, two.count, ready.out-room))),
+        omega (arith, length-take-le (m + n) (take m l ++ (d ++ rest)) both_fit),
+        rw (back_front l d rest m n within few, back_part l d rest m n within few)
+            (tables_mergeable (take m l) (take n d) ready.size ready.name _ _ s u out (omega (arith, lengths, one.count, two.count, ready.out_room))),
       )
 
-  pub both-gathered : (full : Bool) → full ≡ true → (out : List ℕ) (r : ℕ) → length out ≡ length steps → Merged first second out r
-      → Gathered b c numbers (byQuestion full) (pairsOfBoth b c) out r
-  both-gathered full e out r same w = rw e (record {
+  pub both_gathered : (full : Bool) → full ≡ true → (out : List ℕ) (r : ℕ) → length out ≡ length steps → Merged first second out r
+      → Gathered b c numbers (by_question full) (pairs_of_both b c) out r
+  both_gathered full e out r same w = rw e (record {
     count = omega (arith, merged.count, lengths, one.count, two.count);
-    steps = λ g h x y size name v. table_same (take r out) size name (either (byKind Subgraph g h) (byKind Translation g h)) (byEither g h)
-        (merged-table (take m l) (take n d) size name (byKind Subgraph g h) (byKind Translation g h) (one.steps g h x y size name v) (two.steps g h x y size name v)
-        out (omega (arith, lengths, one.count, two.count, ready.out-room)) r merged) (by_both g h);
+    steps = λ g h x y size name v. table_same (take r out) size name (either (by_kind Subgraph g h) (by_kind Translation g h)) (by_either g h)
+        (merged_table (take m l) (take n d) size name (by_kind Subgraph g h) (by_kind Translation g h) (one.steps g h x y size name v) (two.steps g h x y size name v)
+        out (omega (arith, lengths, one.count, two.count, ready.out_room)) r merged) (by_both g h);
   })
     where
       merged : Merged (take m l) (take n d) out r
-      merged = rw (back-front l d rest m n within few, back-part l d rest m n within few) at w
+      merged = rw (back_front l d rest m n within few, back_part l d rest m n within few) at w

@@ -1,8 +1,8 @@
 // The names of two records as one ascending row of spans, and by place in each record the number of its name.
 ghost use Rattle.std.specs.Prelude.{◌≡◌, true, cond, ◌+◌, ◌≤◌, ◌<◌, length, set, take, drop};
-ghost use Rattle.model.specs.Layout.{recordLength, nameCount};
+ghost use Rattle.model.specs.Layout.{record_length, name_count};
 ghost use Rattle.search.specs.Table.{Written};
-ghost use Rattle.union.specs.Names.{spanAt, Readable, IsNext, Joinable, Joined};
+ghost use Rattle.union.specs.Names.{span_at, Readable, IsNext, Joinable, Joined};
 
 use model::Order;
 use record::{bodies_at, body_length, body_start, name_count};
@@ -11,8 +11,8 @@ use text::compare;
 
 // The spans of the names of a record that stands behind `before` bytes, in `rows` from place `at` on.
 pub(crate) fn read_spans(b: &[u8], before: usize, rows: &mut [u32], at: usize)
-    requires { Readable b.now × (before ≤ recordLength) × (at + nameCount b.now ≤ length rows.old) }
-    ensures { Written rows.old rows.new at (nameCount b.now) (spanAt before b.now) }
+    requires { Readable b.now × (before ≤ record_length) × (at + name_count b.now ≤ length rows.old) }
+    ensures { Written rows.old rows.new at (name_count b.now) (span_at before b.now) }
 {
     let bodies = before + bodies_at(b);
     let n = name_count(b);

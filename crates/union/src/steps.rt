@@ -1,9 +1,9 @@
 // The pairs of two records as one ascending table of steps between the numbers of their names.
 ghost use Rattle.std.specs.Prelude.{◌≡◌, ◌+◌, ◌≤◌, ◌<◌, length};
-ghost use Rattle.model.specs.Layout.{pairCount};
+ghost use Rattle.model.specs.Layout.{pair_count};
 ghost use Rattle.search.specs.Table.{Written};
-ghost use Rattle.model.specs.Path.{kindNumber};
-ghost use Rattle.union.specs.Steps.{stepAt, Rowable, Gatherable, byKind, byQuestion, pairsOfKind, pairsOfBoth, Gathered};
+ghost use Rattle.model.specs.Path.{kind_number};
+ghost use Rattle.union.specs.Steps.{step_at, Rowable, Gatherable, by_kind, by_question, pairs_of_kind, pairs_of_both, Gathered};
 
 use model::Kind;
 use record::{PAIR_LENGTH, name_count, pair_count, pair_from, pair_to, table_at};
@@ -11,7 +11,7 @@ use search::{MAX_MOVES, MAX_NODES, merge_rows};
 
 // The number of a kind in a step.
 fn kind_number(kind: Kind) -> u32
-    ensures { (result ≡ kindNumber kind) × (result < 2) }
+    ensures { (result ≡ kind_number kind) × (result < 2) }
 {
     match kind {
         Kind::Subgraph => 0,
@@ -21,8 +21,8 @@ fn kind_number(kind: Kind) -> u32
 
 // The steps of a record's pairs of one kind, in `rows` from place `at` on, with the numbers of its names from place `base` on.
 fn read_row(b: &[u8], kind: Kind, numbers: &[u16], base: usize, rows: &mut [u32], at: usize)
-    requires { Rowable b.now kind numbers.now base × (at + pairCount kind b.now ≤ length rows.old) }
-    ensures { Written rows.old rows.new at (pairCount kind b.now) (stepAt b.now kind numbers.now base) }
+    requires { Rowable b.now kind numbers.now base × (at + pair_count kind b.now ≤ length rows.old) }
+    ensures { Written rows.old rows.new at (pair_count kind b.now) (step_at b.now kind numbers.now base) }
 {
     let table = table_at(b, kind);
     let n = pair_count(b, kind);
@@ -46,8 +46,8 @@ fn kind_steps(
     rows: &mut [u32],
     out: &mut [u32],
 ) -> usize
-    requires { Gatherable b.now c.now numbers.now (pairsOfKind kind b.now c.now) rows.old out.old }
-    ensures { Gathered b.now c.now numbers.now (byKind kind) (pairsOfKind kind b.now c.now) out.new result }
+    requires { Gatherable b.now c.now numbers.now (pairs_of_kind kind b.now c.now) rows.old out.old }
+    ensures { Gathered b.now c.now numbers.now (by_kind kind) (pairs_of_kind kind b.now c.now) out.new result }
 {
     let s = pair_count(b, kind);
     let t = pair_count(c, kind);
@@ -66,8 +66,8 @@ pub(crate) fn question_steps(
     rows: &mut [u32],
     steps: &mut [u32],
 ) -> usize
-    requires { Gatherable b.now c.now numbers.now (pairsOfBoth b.now c.now) rows.old steps.old }
-    ensures { Gathered b.now c.now numbers.now (byQuestion full) (pairsOfBoth b.now c.now) steps.new result }
+    requires { Gatherable b.now c.now numbers.now (pairs_of_both b.now c.now) rows.old steps.old }
+    ensures { Gathered b.now c.now numbers.now (by_question full) (pairs_of_both b.now c.now) steps.new result }
 {
     if !full {
         return kind_steps(b, c, Kind::Subgraph, numbers, rows, steps);

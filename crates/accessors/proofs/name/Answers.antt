@@ -1,13 +1,13 @@
 -- A refusal is the fault found; else the own place tells where the own name stands.
 use Rattle.std.proofs.Common.{sym, ◌∙◌, arith}
-use Rattle.model.specs.Questions.{nameIn}
-use Rattle.record.proofs.Opening.{refused-asked}
-use Rattle.accessors.proofs.Answers.{held, name-given}
+use Rattle.model.specs.Questions.{name_in}
+use Rattle.record.proofs.Opening.{refused_asked}
+use Rattle.accessors.proofs.Answers.{held, name_given}
 use Rattle.accessors.proofs.name.Goals as goal
 
 pub returns-then-number-ne0 : goal.returns-then-number-ne0
-unfolding nameIn
-returns-then-number-ne0 c = grind (arith, refused-asked)
+unfolding name_in
+returns-then-number-ne0 c = grind (arith, refused_asked)
 
 pub head_at-h-requires : goal.head_at-h-requires
 head_at-h-requires c = let h = held c.args.b.now (sym c.fault-number.ensures ∙ c.if-number-ne0.false) in omega arith
@@ -19,4 +19,4 @@ part_of-p-requires c =
     (n.names, n.subgraph, n.translation, omega arith)
 
 pub returns : goal.returns
-returns c = grind (arith, name-given)
+returns c = grind (arith, name_given)

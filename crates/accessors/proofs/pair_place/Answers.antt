@@ -1,19 +1,19 @@
 -- A refusal is the fault found; past the end there is none; else the two places tell where the names stand.
 use Rattle.std.proofs.Common.{sym, ◌∙◌, arith}
-use Rattle.model.specs.Questions.{pairAtIn}
-use Rattle.record.proofs.Opening.{refused-asked}
-use Rattle.accessors.proofs.Answers.{held, pair-absent, pair-given, pair_small}
+use Rattle.model.specs.Questions.{pair_at_in}
+use Rattle.record.proofs.Opening.{refused_asked}
+use Rattle.accessors.proofs.Answers.{held, pair_absent, pair_given, pair_small}
 use Rattle.accessors.proofs.pair_place.Goals as goal
 
 pub returns-then-number-ne0 : goal.returns-then-number-ne0
-unfolding pairAtIn
-returns-then-number-ne0 c = grind (arith, refused-asked)
+unfolding pair_at_in
+returns-then-number-ne0 c = grind (arith, refused_asked)
 
 pub pair_count-requires : goal.pair_count-requires
 pair_count-requires c = let h = held c.args.b.now (sym c.fault-number.ensures ∙ c.if-number-ne0.false) in omega arith
 
 pub returns-then-pair_count-i : goal.returns-then-pair_count-i
-returns-then-pair_count-i c = grind (arith, pair-absent)
+returns-then-pair_count-i c = grind (arith, pair_absent)
 
 pub pair_at-at-requires : goal.pair_at-at-requires
 pair_at-at-requires c =
@@ -52,4 +52,4 @@ part_of-to-requires c =
     (n.names, n.subgraph, n.translation, omega (arith, to, s.2))
 
 pub returns : goal.returns
-returns c = grind (arith, pair-given)
+returns c = grind (arith, pair_given)

@@ -1,15 +1,15 @@
 use Rattle.std.proofs.Common.{rules, sym}
-use Rattle.text.proofs.Put.{put-none}
-use Rattle.block.proofs.Moves.{clear-turn}
+use Rattle.text.proofs.Put.{put_none}
+use Rattle.block.proofs.Moves.{clear_turn}
 use Rattle.block.proofs.moving.clear.Goals as goal
 
 pub loop-i-init : goal.loop-i-init
-loop-i-init c = record { within = search rules; cleared = sym (put-none _ _) }
+loop-i-init c = record { within = search rules; cleared = sym (put_none _ _) }
 
 pub loop-i-preserved : goal.loop-i-preserved
 loop-i-preserved c =
     let a = c.args in
     record {
       within = search rules;
-      cleared = clear-turn a.b.now a.at a.n c.loop-i.b c.loop-i.i (search rules) (search rules) c.loop-i.invariant.cleared;
+      cleared = clear_turn a.b.now a.at a.n c.loop-i.b c.loop-i.i (search rules) (search rules) c.loop-i.invariant.cleared;
     }

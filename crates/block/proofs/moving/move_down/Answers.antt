@@ -1,10 +1,10 @@
 use Rattle.std.proofs.Common.{rules, sym}
-use Rattle.text.proofs.Put.{put-none}
+use Rattle.text.proofs.Put.{put_none}
 use Rattle.block.proofs.Moves.{down_turn}
 use Rattle.block.proofs.moving.move_down.Goals as goal
 
 pub loop-i-init : goal.loop-i-init
-loop-i-init c = record { within = search rules; moved = sym (put-none _ _) }
+loop-i-init c = record { within = search rules; moved = sym (put_none _ _) }
 
 pub loop-i-preserved : goal.loop-i-preserved
 loop-i-preserved c =

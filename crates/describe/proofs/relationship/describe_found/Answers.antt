@@ -1,41 +1,41 @@
 -- The text that what was found decides.
 use Rattle.std.proofs.Common.{length}
-use Rattle.export.proofs.Answering.{refused-answers}
-use Rattle.describe.proofs.Outcomes.{written-fault, written-forward, written-backward, written-neither, has-path-in, no-path-own-names}
+use Rattle.export.proofs.Answering.{refused_answers}
+use Rattle.describe.proofs.Outcomes.{written_fault, written_forward, written_backward, written_neither, has_path_in, no_path_own_names}
 use Rattle.describe.proofs.relationship.describe_found.Goals as goal
 
 pub describe_path-requires : goal.describe_path-requires
 describe_path-requires c =
-    let found = rw c.in-Forward.is at c.requires in has-path-in c.args.b.now c.args.c.now c.args.path.now found
+    let found = rw c.in-Forward.is at c.requires in has_path_in c.args.b.now c.args.c.now c.args.path.now found
 
 pub describe_path-requires-in-Backward : goal.describe_path-requires-in-Backward
 describe_path-requires-in-Backward c =
-    let found = rw c.in-Backward.is at c.requires in has-path-in c.args.c.now c.args.b.now c.args.path.now found.0
+    let found = rw c.in-Backward.is at c.requires in has_path_in c.args.c.now c.args.b.now c.args.path.now found.0
 
 pub describe_no_path-requires : goal.describe_no_path-requires
-describe_no_path-requires c = let found = rw c.in-Neither.is at c.requires in no-path-own-names c.args.c.now c.args.b.now found.0
+describe_no_path-requires c = let found = rw c.in-Neither.is at c.requires in no_path_own_names c.args.c.now c.args.b.now found.0
 
 pub returns-in-Refused : goal.returns-in-Refused
 returns-in-Refused c =
     let a = c.args in
     let found = rw c.in-Refused.is at c.requires in
-    refused-answers _ a.out.now c.in-Refused.n
-    (written-fault a.b.now a.c.now a.self_desc.now a.other_desc.now (length a.out.now) c.in-Refused.n found)
+    refused_answers _ a.out.now c.in-Refused.n
+    (written_fault a.b.now a.c.now a.self_desc.now a.other_desc.now (length a.out.now) c.in-Refused.n found)
 
 pub returns-in-Forward : goal.returns-in-Forward
 returns-in-Forward c =
     let a = c.args in
     let found = rw c.in-Forward.is at c.requires in
-    rw (written-forward a.b.now a.c.now a.self_desc.now a.other_desc.now (length a.out.now) a.path.now found) c.describe_path.ensures
+    rw (written_forward a.b.now a.c.now a.self_desc.now a.other_desc.now (length a.out.now) a.path.now found) c.describe_path.ensures
 
 pub returns-in-Backward : goal.returns-in-Backward
 returns-in-Backward c =
     let a = c.args in
     let found = rw c.in-Backward.is at c.requires in
-    rw (written-backward a.b.now a.c.now a.self_desc.now a.other_desc.now (length a.out.now) a.path.now found.0 found.1) c.describe_path-in-Backward.ensures
+    rw (written_backward a.b.now a.c.now a.self_desc.now a.other_desc.now (length a.out.now) a.path.now found.0 found.1) c.describe_path-in-Backward.ensures
 
 pub returns-in-Neither : goal.returns-in-Neither
 returns-in-Neither c =
     let a = c.args in
     let found = rw c.in-Neither.is at c.requires in
-    rw (written-neither a.b.now a.c.now a.self_desc.now a.other_desc.now (length a.out.now) found.0 found.1) c.describe_no_path.ensures
+    rw (written_neither a.b.now a.c.now a.self_desc.now a.other_desc.now (length a.out.now) found.0 found.1) c.describe_no_path.ensures

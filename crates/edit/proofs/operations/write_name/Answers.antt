@@ -1,6 +1,6 @@
 -- The name alone is what the tables show.
-use Rattle.edit.proofs.Alone.{alone-storable}
+use Rattle.edit.proofs.Alone.{alone_storable}
 use Rattle.edit.proofs.operations.write_name.Goals as goal
 
 pub store-requires : goal.store-requires
-store-requires c = (alone-storable c.args.name.now c.requires.0, c.requires.1)
+store-requires c = (alone_storable c.args.name.now c.requires.0, c.requires.1)

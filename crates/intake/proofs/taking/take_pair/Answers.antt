@@ -1,19 +1,19 @@
 -- A long name, or the pair put in and judged.
-use Rattle.intake.proofs.Progress.{long-from, long-to, pair-room, pair-progress}
+use Rattle.intake.proofs.Progress.{long_from, long_to, pair_room, pair_progress}
 use Rattle.intake.proofs.taking.take_pair.Goals as goal
 
 pub returns-then-from-gt-MAX_NAME_BYTES : goal.returns-then-from-gt-MAX_NAME_BYTES
-returns-then-from-gt-MAX_NAME_BYTES c = long-from c.requires c.args.kind c.args.from.now c.args.to.now _ c.if-from-gt-MAX_NAME_BYTES.true
+returns-then-from-gt-MAX_NAME_BYTES c = long_from c.requires c.args.kind c.args.from.now c.args.to.now _ c.if-from-gt-MAX_NAME_BYTES.true
 
 pub returns-then-to-gt-MAX_NAME_BYTES : goal.returns-then-to-gt-MAX_NAME_BYTES
-returns-then-to-gt-MAX_NAME_BYTES c = long-to c.requires c.args.kind c.args.from.now c.args.to.now _ c.if-to-gt-MAX_NAME_BYTES.true
+returns-then-to-gt-MAX_NAME_BYTES c = long_to c.requires c.args.kind c.args.from.now c.args.to.now _ c.if-to-gt-MAX_NAME_BYTES.true
 
 pub put_pair-sizes-requires-clause-pair_room : goal.put_pair-sizes-requires-clause-pair_room
 put_pair-sizes-requires-clause-pair_room c =
-    pair-room c.requires c.args.from.now c.args.to.now c.if-from-gt-MAX_NAME_BYTES.false c.if-to-gt-MAX_NAME_BYTES.false
+    pair_room c.requires c.args.from.now c.args.to.now c.if-from-gt-MAX_NAME_BYTES.false c.if-to-gt-MAX_NAME_BYTES.false
 
 pub returns : goal.returns
 returns c =
-    pair-progress c.requires c.args.kind c.args.from.now c.args.to.now c.put_pair-sizes.ensures
+    pair_progress c.requires c.args.kind c.args.from.now c.args.to.now c.put_pair-sizes.ensures
     c.put_pair-sizes.auto.refs c.put_pair-sizes.auto.subs c.put_pair-sizes.auto.trans c.put_pair-sizes.auto.pool
     c.take_state.result c.take_state.ensures

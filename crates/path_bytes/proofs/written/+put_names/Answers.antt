@@ -1,5 +1,5 @@
 use Rattle.std.proofs.Common.{arith}
-use Rattle.path_bytes.proofs.Joined.{few-steps, first_fits, names-first, writable-prev, further-fits, names_more}
+use Rattle.path_bytes.proofs.Joined.{few_steps, first_fits, names_first, writable_prev, further_fits, names_more}
 use Rattle.path_bytes.proofs.written.+put_names.Goals as goal
 
 pub copy-requires : goal.copy-requires
@@ -8,17 +8,17 @@ copy-requires t c =
 
 pub returns-then-step-eq0 : goal.returns-then-step-eq0
 returns-then-step-eq0 t c =
-    names-first _ _ _ _ _ _ _ _ c.requires _ c.name_at-name.ensures.0 _ c.if-step-eq0.true _ _ _ c.put_entry.ensures c.copy.ensures
+    names_first _ _ _ _ _ _ _ _ c.requires _ c.name_at-name.ensures.0 _ c.if-step-eq0.true _ _ _ c.put_entry.ensures c.copy.ensures
 
 pub put_names-end-requires : goal.put_names-end-requires
-put_names-end-requires t c = (omega arith, writable-prev _ _ _ _ _ _ _ _ c.requires _ c.name_at-name.ensures.0 c.args.kind c.if-step-eq0.false)
+put_names-end-requires t c = (omega arith, writable_prev _ _ _ _ _ _ _ _ c.requires _ c.name_at-name.ensures.0 c.args.kind c.if-step-eq0.false)
 
 pub put_entry-requires-2 : goal.put_entry-requires-2
-put_entry-requires-2 t c = (few-steps _ _ _ _ _ _ _ _ c.requires, omega arith)
+put_entry-requires-2 t c = (few_steps _ _ _ _ _ _ _ _ c.requires, omega arith)
 
 pub copy-requires-2 : goal.copy-requires-2
 copy-requires-2 t c =
-    let fits = further-fits _ _ _ _ _ _ _ _ c.requires _ c.name_at-name.ensures.0 c.args.kind c.if-step-eq0.false _ c.put_names-end.ensures.end in
+    let fits = further_fits _ _ _ _ _ _ _ _ c.requires _ c.name_at-name.ensures.0 c.args.kind c.if-step-eq0.false _ c.put_names-end.ensures.end in
     omega (arith, fits, c.put_names-end.auto.out, c.put_entry-2.auto.out)
 
 pub returns : goal.returns

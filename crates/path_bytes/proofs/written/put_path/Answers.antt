@@ -1,10 +1,10 @@
 -- The size decides; then the count, and the names behind it.
-use Rattle.path_bytes.proofs.Joined.{path-short, path-written}
+use Rattle.path_bytes.proofs.Joined.{path_short, path_written}
 use Rattle.path_bytes.proofs.written.put_path.Goals as goal
 
 pub returns-then-out-at : goal.returns-then-out-at
-returns-then-out-at c = path-short _ _ _ _ _ _ _ _ c.path_length-step.ensures.0 c.bodies_at-at.ensures c.bodies_length.ensures.0 _ c.if-out-at.true
+returns-then-out-at c = path_short _ _ _ _ _ _ _ _ c.path_length-step.ensures.0 c.bodies_at-at.ensures c.bodies_length.ensures.0 _ c.if-out-at.true
 
 pub returns : goal.returns
 returns c =
-    path-written _ _ _ _ _ _ _ _ c.path_length-step.ensures.0 c.bodies_at-at.ensures c.bodies_length.ensures.0 _ c.if-out-at.false _ c.write16.ensures.1 _ _ c.put_names.ensures
+    path_written _ _ _ _ _ _ _ _ c.path_length-step.ensures.0 c.bodies_at-at.ensures c.bodies_length.ensures.0 _ c.if-out-at.false _ c.write16.ensures.1 _ _ c.put_names.ensures

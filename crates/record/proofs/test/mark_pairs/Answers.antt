@@ -1,5 +1,5 @@
 use Rattle.std.proofs.Common.{length, length-set, arith}
-use Rattle.record.proofs.Steps.{marks-end, marks-more, under_more}
+use Rattle.record.proofs.Steps.{marks_end, marks_more, under_more}
 use Rattle.record.proofs.test.mark_pairs.Goals as goal
 
 pub bounds-used-x : goal.bounds-used-x
@@ -16,8 +16,8 @@ loop-left-preserved c =
       place = omega arith;
       few = omega arith;
       under = (under_more (length c.args.used.now) l.left l.p b c.loop-left-test.true l.invariant.under).2;
-      rest = grind (arith, marks-more);
+      rest = grind (arith, marks_more);
     }
 
 pub returns : goal.returns
-returns c = grind (arith, marks-end)
+returns c = grind (arith, marks_end)

@@ -1,12 +1,12 @@
 use Rattle.std.proofs.Common.{arith}
-use Rattle.record.proofs.Steps.{pairsOk-end, pairsOk-more}
+use Rattle.record.proofs.Steps.{pairs_ok_end, pairs_ok_more}
 use Rattle.record.proofs.test.pairs_ok.Goals as goal
 
 pub returns-then-not-pair_ok : goal.returns-then-not-pair_ok
-returns-then-not-pair_ok c = grind (arith, pairsOk-more)
+returns-then-not-pair_ok c = grind (arith, pairs_ok_more)
 
 pub loop-left-preserved : goal.loop-left-preserved
-loop-left-preserved c = record { place = omega arith; few = omega arith; rest = grind (arith, pairsOk-more) }
+loop-left-preserved c = record { place = omega arith; few = omega arith; rest = grind (arith, pairs_ok_more) }
 
 pub returns : goal.returns
-returns c = grind (arith, pairsOk-end)
+returns c = grind (arith, pairs_ok_end)

@@ -1,19 +1,19 @@
 use Rattle.std.proofs.Common.{◌≡◌, rules, arith, sym}
-use Rattle.sorted.proofs.Gap.{moved-start, moved-turn, moved_store}
+use Rattle.sorted.proofs.Gap.{moved_start, moved_turn, moved_store}
 use Rattle.sorted.proofs.numbers.insert_at.Goals as goal
 
 pub loop-i-init : goal.loop-i-init
 loop-i-init c = record {
   from = search rules;
   within = search rules;
-  moved = sym (moved-start c.args.a.now c.args.n (search rules));
+  moved = sym (moved_start c.args.a.now c.args.n (search rules));
 }
 
 pub loop-i-preserved : goal.loop-i-preserved
 loop-i-preserved c = record {
   from = omega arith;
   within = omega arith;
-  moved = moved-turn c.args.a.now c.args.n (search rules) c.loop-i.i c.loop-i.a (omega arith) (omega arith) c.loop-i.invariant.moved;
+  moved = moved_turn c.args.a.now c.args.n (search rules) c.loop-i.i c.loop-i.a (omega arith) (omega arith) c.loop-i.invariant.moved;
 }
 
 pub returns : goal.returns

@@ -1,7 +1,7 @@
 use Rattle.std.proofs.Common.{rules, arith, get_or}
 use Rattle.sorted.specs.Sorted.{renumbered}
 use Rattle.sorted.proofs.Renumber.{Small, small_at}
-use Rattle.sorted.proofs.Front.{get_d_front, front-turn}
+use Rattle.sorted.proofs.Front.{get_d_front, front_turn}
 use Rattle.sorted.proofs.numbers.renumber.Goals as goal
 use Rattle.sorted.proofs.numbers.renumber.Goals.{After-step}
 
@@ -23,6 +23,6 @@ loop-i-preserved c =
     let l = c.loop-i in
     record {
       within = omega arith;
-      pairs = front-turn (renumbered c.args.p) 0 l.i c.args.a.now l.a _ (omega arith) l.invariant.pairs
+      pairs = front_turn (renumbered c.args.p) 0 l.i c.args.a.now l.a _ (omega arith) l.invariant.pairs
           (unfold renumbered in rw (c.step.ensures.0, c.step-in-loop-i.ensures.0));
     }

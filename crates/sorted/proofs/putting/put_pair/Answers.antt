@@ -1,7 +1,7 @@
 -- Both names are put in, then the number of their places, which are the names' own.
 use Rattle.std.proofs.Common.{◌<◌, refl, ◌∙◌, arith, length}
 use Rattle.sorted.specs.Tables.{Tables, tables, NamePut}
-use Rattle.sorted.proofs.PutPair.{first_small, places-small, subgraph-put, translation-put}
+use Rattle.sorted.proofs.PutPair.{first_small, places_small, subgraph_put, translation_put}
 use Rattle.sorted.proofs.putting.put_pair.Goals as goal
 use Rattle.sorted.proofs.putting.put_pair.Goals.{After-put_name-b, After-moved_place-x}
 
@@ -29,7 +29,7 @@ small : (c : After-moved_place-x)
     × (c.put_name-b.result.sizes.names < 65536)
 small c =
     let w = (goal.at.overflow_mul-pair c).After-put_name-b in
-    places-small (first w) (mid w) (both w) _ _ _ _ c.moved_place-x.result (one w) (two w) c.moved_place-x.ensures
+    places_small (first w) (mid w) (both w) _ _ _ _ c.moved_place-x.result (one w) (two w) c.moved_place-x.ensures
 
 pub moved_place-x-requires : goal.moved_place-x-requires
 moved_place-x-requires c =
@@ -51,7 +51,7 @@ returns-in-Subgraph c =
     let r = c.put_number in
     let room : (both w).sizes.subgraph < length (both w).subs =
     omega (arith, c.requires.pair_room.subgraph, (two w).subgraph, (one w).subgraph, c.put_name-b.auto.subs ∙ c.put_name-a.auto.subs) in
-    subgraph-put (first w) (mid w) (both w) _ _ _ _ c.moved_place-x.result (one w) (two w) c.moved_place-x.ensures c.args.kind c.in-Subgraph.is
+    subgraph_put (first w) (mid w) (both w) _ _ _ _ c.moved_place-x.result (one w) (two w) c.moved_place-x.ensures c.args.kind c.in-Subgraph.is
     r.result r.new.a r.ensures.1 (omega (arith, r.ensures.0, r.auto.a, room))
 
 pub returns-in-Translation : goal.returns-in-Translation
@@ -60,5 +60,5 @@ returns-in-Translation c =
     let r = c.put_number-in-Translation in
     let room : (both w).sizes.translation < length (both w).trans =
     omega (arith, c.requires.pair_room.translation, (two w).translation, (one w).translation, c.put_name-b.auto.trans ∙ c.put_name-a.auto.trans) in
-    translation-put (first w) (mid w) (both w) _ _ _ _ c.moved_place-x.result (one w) (two w) c.moved_place-x.ensures c.args.kind c.in-Translation.is
+    translation_put (first w) (mid w) (both w) _ _ _ _ c.moved_place-x.result (one w) (two w) c.moved_place-x.ensures c.args.kind c.in-Translation.is
     r.result r.new.a r.ensures.1 (omega (arith, r.ensures.0, r.auto.a, room))

@@ -1,7 +1,7 @@
 -- One test, computed over the whole table, shows all of its entries.
 use Rattle.std.proofs.Common.{◌≡◌, refl, sym, Bool, true, false, ◌&&◌, List, ◌∷◌, ◌++◌, ℕ, ◌/◌, ◌%◌, eqb, get_or, replicate, rules}
 use mathlib.Core.Bool.{beq}
-use Rattle.model.specs.Strict.{digit, hexLetter, letter, visible, printable}
+use Rattle.model.specs.Strict.{digit, hex_letter, letter, visible, printable}
 use Rattle.text.proofs.Tests.{both_true}
 use Rattle.strict.specs.Class.{Classes}
 use Rattle.strict.proofs.Table.{at}
@@ -11,7 +11,7 @@ use Rattle.strict.proofs.class.class_of.Goals as goal
 abbrev right : ℕ → ℕ → Bool
 right x n =
     beq (eqb (n % 2) 1) (digit x)
-    && (beq (eqb (n / 2 % 2) 1) (hexLetter x)
+    && (beq (eqb (n / 2 % 2) 1) (hex_letter x)
     && (beq (eqb (n / 4 % 2) 1) (letter x)
     && (beq (eqb (n / 8 % 2) 1) (visible x)
     && beq (eqb (n / 16 % 2) 1) (printable x))))
@@ -30,7 +30,7 @@ classes x n e =
     let s = both_true _ _ r.1 in
     record {
       digits = same _ _ p.0;
-      hexLetters = same _ _ q.0;
+      hex_letters = same _ _ q.0;
       letters = same _ _ r.0;
       visibles = same _ _ s.0;
       printables = same _ _ s.1;

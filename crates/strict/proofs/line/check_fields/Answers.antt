@@ -1,12 +1,12 @@
 use Rattle.std.proofs.Common.{sym}
-use Rattle.strict.proofs.Lines.{field-within, next_field, read_none, read_all}
+use Rattle.strict.proofs.Lines.{field_within, next_field, read_none, read_all}
 use Rattle.strict.proofs.line.check_fields.Goals as goal
 
 pub loop-at-init : goal.loop-at-init
 loop-at-init c = read_none _ _ _ c.requires
 
 pub slice_bounds-is_new_field-end : goal.slice_bounds-is_new_field-end
-slice_bounds-is_new_field-end c = field-within _ _ _ c.loop-at-test.true c.find_byte-at.ensures
+slice_bounds-is_new_field-end c = field_within _ _ _ c.loop-at-test.true c.find_byte-at.ensures
 
 pub returns-then-not-is_new_field : goal.returns-then-not-is_new_field
 returns-then-not-is_new_field c =

@@ -4,7 +4,7 @@ use Prim.Native.Nat.{ℕ}
 use lib.ListN.{take, drop}
 use Rattle.model.specs.Bytes.{put}
 use Rattle.tables.proofs.Records.{is_held}
-use Rattle.tables.proofs.Loaded.{taken-bodies}
+use Rattle.tables.proofs.Loaded.{taken_bodies}
 use native.Mathlib.Omega.{arith}
 use Rattle.tables.proofs.loading.load_bodies.Goals as goal
 
@@ -14,4 +14,4 @@ bodies_at-requires c = omega (arith, (is_held c.args.b.now c.requires.0).long)
 pub returns : goal.returns
 returns c =
     let b = c.args.b.now in
-    c.copy.ensures.1 ∙ ap (put c.args.pool.now 0) (c.part.ensures ∙ ap₂ (λ (size at : ℕ). take size (drop at b)) c.requires.1 c.bodies_at.ensures.0 ∙ taken-bodies b c.requires.0)
+    c.copy.ensures.1 ∙ ap (put c.args.pool.now 0) (c.part.ensures ∙ ap₂ (λ (size at : ℕ). take size (drop at b)) c.requires.1 c.bodies_at.ensures.0 ∙ taken_bodies b c.requires.0)

@@ -1,10 +1,10 @@
 use mathlib.Core.Path.{sym, ap₂, ◌∙◌}
 use Prim.Native.Nat.{ℕ}
 use native.Mathlib.Omega.{arith}
-use Rattle.model.specs.Layout.{nameCount}
-use Rattle.record.specs.Test.{entriesOf}
+use Rattle.model.specs.Layout.{name_count}
+use Rattle.record.specs.Test.{entries_of}
 use Rattle.tables.proofs.Records.{is_held}
-use Rattle.tables.proofs.Loaded.{numbers-turn, numbers-all, entry_read, length-entriesOf}
+use Rattle.tables.proofs.Loaded.{numbers_turn, numbers_all, entry_read, length_entries_of}
 use Rattle.tables.proofs.loading.load_entries.Goals as goal
 
 pub name_count-n-requires : goal.name_count-n-requires
@@ -22,8 +22,8 @@ loop-i-preserved c =
     let s = c.loop-i in
     record {
       within = omega arith;
-      read = numbers-turn (entriesOf b) s.i _ _ s.refs (rw (length-entriesOf b) (omega arith)) (omega arith) (entry_read b s.i (omega arith) ∙ sym (ap₂ (λ (x y : ℕ). (x, y)) c.body_start.ensures.0 c.body_length.ensures.0)) c.body_length.ensures.1 s.invariant.read;
+      read = numbers_turn (entries_of b) s.i _ _ s.refs (rw (length_entries_of b) (omega arith)) (omega arith) (entry_read b s.i (omega arith) ∙ sym (ap₂ (λ (x y : ℕ). (x, y)) c.body_start.ensures.0 c.body_length.ensures.0)) c.body_length.ensures.1 s.invariant.read;
     }
 
 pub returns : goal.returns
-returns c = let b = c.args.b.now in numbers-all (entriesOf b) (nameCount b) c.loop-i.i c.loop-i.refs (length-entriesOf b) (omega arith) (omega arith) c.loop-i.invariant.read
+returns c = let b = c.args.b.now in numbers_all (entries_of b) (name_count b) c.loop-i.i c.loop-i.refs (length_entries_of b) (omega arith) (omega arith) c.loop-i.invariant.read

@@ -2,12 +2,12 @@
 use mathlib.Core.Path.{◌≡◌}
 use Prim.Native.Nat.{◌-◌, ◌≤◌}
 use lib.ListN.{take}
-use Rattle.record.specs.Test.{entriesOf}
-use Rattle.sorted.specs.Tables.{pairsIn}
+use Rattle.record.specs.Test.{entries_of}
+use Rattle.sorted.specs.Tables.{pairs_in}
 use Rattle.tables.proofs.loading.load_entries.Given as goal
 
 abbrev pub invariant-loop-i : goal.invariant-loop-i
-invariant-loop-i l = record { within : l.i ≤ l.n; read : pairsIn l.i l.refs ≡ take l.i (entriesOf l.b) }
+invariant-loop-i l = record { within : l.i ≤ l.n; read : pairs_in l.i l.refs ≡ take l.i (entries_of l.b) }
 
 abbrev pub decreases-loop-i : goal.decreases-loop-i
 decreases-loop-i l = l.n - l.i

@@ -2,12 +2,12 @@ use mathlib.Core.Path.{sym, ap₂, ◌∙◌}
 use Prim.Native.Nat.{ℕ}
 use lib.ListN.{take, drop}
 use native.Mathlib.Omega.{arith}
-use Rattle.model.specs.Layout.{pairLength, pairCount, tableAt}
-use Rattle.record.specs.Test.{pairsAt}
-use Rattle.record.proofs.Words.{length-rowsAt, getD-rowsAt}
-use Rattle.tables.specs.Loading.{pairsOfKind}
+use Rattle.model.specs.Layout.{pair_length, pair_count, table_at}
+use Rattle.record.specs.Test.{pairs_at}
+use Rattle.record.proofs.Words.{length_rows_at, get_or_rows_at}
+use Rattle.tables.specs.Loading.{pairs_of_kind}
 use Rattle.tables.proofs.Records.{is_held, pair_inside}
-use Rattle.tables.proofs.Loaded.{numbers-turn, numbers-all}
+use Rattle.tables.proofs.Loaded.{numbers_turn, numbers_all}
 use Rattle.tables.proofs.loading.load_pairs.Goals as goal
 
 pub pair_count-n-requires : goal.pair_count-n-requires
@@ -31,7 +31,7 @@ loop-i-preserved c =
     record {
       within = omega arith;
       read =
-          numbers-turn (pairsAt n (drop at b)) s.i _ _ s.pairs (rw (length-rowsAt pairLength n (drop at b)) c.loop-i-test.true) (omega arith) (getD-rowsAt pairLength n at b s.i c.loop-i-test.true ∙ sym (ap₂ (λ (x y : ℕ). (x, y)) c.pair_from.ensures.0 c.pair_to.ensures.0)) c.pair_to.ensures.1
+          numbers_turn (pairs_at n (drop at b)) s.i _ _ s.pairs (rw (length_rows_at pair_length n (drop at b)) c.loop-i-test.true) (omega arith) (get_or_rows_at pair_length n at b s.i c.loop-i-test.true ∙ sym (ap₂ (λ (x y : ℕ). (x, y)) c.pair_from.ensures.0 c.pair_to.ensures.0)) c.pair_to.ensures.1
           s.invariant.read;
     }
 
@@ -40,4 +40,4 @@ returns c =
     let b = c.args.b.now in
     let k = c.args.kind in
     let s = c.loop-i in
-    numbers-all (pairsOfKind k b) (pairCount k b) s.i s.pairs (length-rowsAt pairLength (pairCount k b) (drop (tableAt k b) b)) (omega arith) (omega arith) (s.invariant.read ∙ ap₂ (λ (x y : ℕ). take s.i (pairsAt x (drop y b))) c.pair_count-n.ensures.0 c.table_at-at.ensures.0)
+    numbers_all (pairs_of_kind k b) (pair_count k b) s.i s.pairs (length_rows_at pair_length (pair_count k b) (drop (table_at k b) b)) (omega arith) (omega arith) (s.invariant.read ∙ ap₂ (λ (x y : ℕ). take s.i (pairs_at x (drop y b))) c.pair_count-n.ensures.0 c.table_at-at.ensures.0)

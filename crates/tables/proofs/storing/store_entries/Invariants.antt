@@ -3,17 +3,17 @@ use mathlib.Core.Path.{◌≡◌}
 use Prim.Native.Nat.{◌+◌, ◌-◌, ◌*◌, ◌≤◌}
 use mathlib.Core.List.{map}
 use lib.Seq.{slice}
-use Rattle.model.specs.Layout.{entryLength, entries}
+use Rattle.model.specs.Layout.{entry_length, entries}
 use Rattle.model.specs.Bytes.{put}
-use Rattle.sorted.specs.Tables.{bodyIn, namesIn}
+use Rattle.sorted.specs.Tables.{body_in, names_in}
 use Rattle.tables.proofs.storing.store_entries.Given as goal
 
 abbrev pub invariant-loop-i : goal.invariant-loop-i
 invariant-loop-i l = record {
   within : l.i ≤ l.n;
-  place : l.p ≡ l.at + entryLength * l.i;
+  place : l.p ≡ l.at + entry_length * l.i;
   bounded : l.start ≤ 65536 * l.i;
-  output : put l.buffer l.p (entries l.start (map (bodyIn l.pool) (slice l.i l.n l.refs))) ≡ put l.fn.buffer l.at (entries 0 (namesIn l.pool l.n l.refs));
+  output : put l.buffer l.p (entries l.start (map (body_in l.pool) (slice l.i l.n l.refs))) ≡ put l.fn.buffer l.at (entries 0 (names_in l.pool l.n l.refs));
 }
 
 abbrev pub decreases-loop-i : goal.decreases-loop-i

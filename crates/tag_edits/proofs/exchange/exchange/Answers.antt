@@ -1,7 +1,7 @@
 -- The keys and values first, then the entries, then the count.
 use Rattle.std.proofs.Common.{arith}
 use Rattle.tag_list.proofs.Walk.{holds}
-use Rattle.tag_edits.proofs.Exchanging.{counts, first_fits, second_fits, third-fits, exchanges}
+use Rattle.tag_edits.proofs.Exchanging.{counts, first_fits, second_fits, third_fits, exchanges}
 use Rattle.tag_edits.proofs.exchange.exchange.Goals as goal
 
 pub read32-requires : goal.read32-requires
@@ -34,7 +34,7 @@ pub write32-requires : goal.write32-requires
 write32-requires c =
     let a = c.args in
     let end = c.contents_end-end in
-    third-fits a.list.now a.place a.start a.held a.old a.entry.now a.t.now a.u.now c.requires end.result end.ensures c.splice.new.b c.splice.ensures c.splice-2.new.b c.splice-2.ensures
+    third_fits a.list.now a.place a.start a.held a.old a.entry.now a.t.now a.u.now c.requires end.result end.ensures c.splice.new.b c.splice.ensures c.splice-2.new.b c.splice-2.ensures
 
 pub returns : goal.returns
 returns c =

@@ -3,11 +3,11 @@ use Rattle.std.proofs.Common.{◌≡◌, sym, ap, ◌∙◌, length, arith}
 use Rattle.std.proofs.lemmas.Bool.{not-true, not-false}
 use Rattle.model.specs.Opening.{gives}
 use Rattle.model.specs.TagList.{lower}
-use Rattle.tag_list.proofs.Asking.{start-within}
-use Rattle.tag_list.proofs.KeyBytes.{fine-length, front-lowered}
-use Rattle.tag_list.proofs.Lowering.{length-lower}
-use Rattle.tag_edits.proofs.Placed.{remove-none}
-use Rattle.tag_edits.proofs.Inserting.{remove_absent, remove-short, remove-done, held-value, held-size}
+use Rattle.tag_list.proofs.Asking.{start_within}
+use Rattle.tag_list.proofs.KeyBytes.{fine_length, front_lowered}
+use Rattle.tag_list.proofs.Lowering.{length_lower}
+use Rattle.tag_edits.proofs.Placed.{remove_none}
+use Rattle.tag_edits.proofs.Inserting.{remove_absent, remove_short, remove_done, held_value, held_size}
 use Rattle.tag_edits.proofs.one.remove_fine.Goals as goal
 
 pub returns-then-not-found : goal.returns-then-not-found
@@ -17,7 +17,7 @@ returns-then-not-found c =
     let found = c.find_lowered-found in
     let h = not-true found.result.held c.if-not-found.true in
     let e = remove_absent a.list.now r.0 a.key.now r.1 (length a.out.now) found.result found.ensures.0 h in
-    record { answer = rw e; rest = rw e (remove-none a.list.now r.0 (lower a.key.now) found.result found.ensures.0 h); output = rw e }
+    record { answer = rw e; rest = rw e (remove_none a.list.now r.0 (lower a.key.now) found.result found.ensures.0 h); output = rw e }
 
 pub returns-then-out-size : goal.returns-then-out-size
 returns-then-out-size c =
@@ -25,7 +25,7 @@ returns-then-out-size c =
     let r = c.requires in
     let found = c.find_lowered-found in
     let h = not-false found.result.held c.if-not-found.false in
-    let e = remove-short a.list.now r.0 a.key.now r.1 (length a.out.now) found.result found.ensures.0 h c.if-out-size.true in
+    let e = remove_short a.list.now r.0 a.key.now r.1 (length a.out.now) found.result found.ensures.0 h c.if-out-size.true in
     record { answer = rw e; rest = rw e; output = rw e }
 
 pub overflow_add-found : goal.overflow_add-found
@@ -33,15 +33,15 @@ overflow_add-found c =
     let a = c.args in
     let r = c.requires in
     let found = c.find_lowered-found in
-    omega (arith, start-within a.list.now r.0 (lower a.key.now) found.result found.ensures.0, fine-length a.key.now r.1)
+    omega (arith, start_within a.list.now r.0 (lower a.key.now) found.result found.ensures.0, fine_length a.key.now r.1)
 
 pub delete-requires : goal.delete-requires
 delete-requires c =
     let a = c.args in
     let r = c.requires in
     let found = c.find_lowered-found in
-    let k : c.part-2.result.now ≡ lower a.key.now = c.part-2.ensures ∙ front-lowered a.space.now a.key.now found.new.space found.ensures.1 in
-    (r.0, rw k found.ensures.0, rw (k, length-lower a.key.now) (fine-length a.key.now r.1))
+    let k : c.part-2.result.now ≡ lower a.key.now = c.part-2.ensures ∙ front_lowered a.space.now a.key.now found.new.space found.ensures.1 in
+    (r.0, rw k found.ensures.0, rw (k, length_lower a.key.now) (fine_length a.key.now r.1))
 
 pub returns : goal.returns
 returns c =
@@ -49,10 +49,10 @@ returns c =
     let r = c.requires in
     let found = c.find_lowered-found in
     let h = not-false found.result.held c.if-not-found.false in
-    let k : c.part-2.result.now ≡ lower a.key.now = c.part-2.ensures ∙ front-lowered a.space.now a.key.now found.new.space found.ensures.1 in
-    let e = remove-done a.list.now r.0 a.key.now r.1 (length a.out.now) found.result found.ensures.0 h c.if-out-size.false in
+    let k : c.part-2.result.now ≡ lower a.key.now = c.part-2.ensures ∙ front_lowered a.space.now a.key.now found.new.space found.ensures.1 in
+    let e = remove_done a.list.now r.0 a.key.now r.1 (length a.out.now) found.result found.ensures.0 h c.if-out-size.false in
     record {
-      answer = rw e (ap gives (sym (held-size a.list.now r.0 a.key.now found.result found.ensures.0 h)));
+      answer = rw e (ap gives (sym (held_size a.list.now r.0 a.key.now found.result found.ensures.0 h)));
       rest = rw e (c.delete.ensures ∙ rw k);
-      output = rw (e, held-value a.list.now r.0 a.key.now found.result found.ensures.0 h) (c.copy.ensures.1 ∙ rw c.part.ensures);
+      output = rw (e, held_value a.list.now r.0 a.key.now found.result found.ensures.0 h) (c.copy.ensures.1 ∙ rw c.part.ensures);
     }

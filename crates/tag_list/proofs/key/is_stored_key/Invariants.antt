@@ -1,11 +1,11 @@
 -- The bytes from i on decide.
 use Rattle.std.proofs.Common.{◌≡◌, ◌≤◌, ◌-◌, length, drop}
-use Rattle.model.specs.Bytes.{everyByte}
-use Rattle.model.specs.TagList.{storedByte}
+use Rattle.model.specs.Bytes.{every_byte}
+use Rattle.model.specs.TagList.{stored_byte}
 use Rattle.tag_list.proofs.key.is_stored_key.Given as goal
 
 abbrev pub invariant-loop-i : goal.invariant-loop-i
-invariant-loop-i l = record { within : l.i ≤ length l.key; rest : everyByte storedByte l.key ≡ everyByte storedByte (drop l.i l.key) }
+invariant-loop-i l = record { within : l.i ≤ length l.key; rest : every_byte stored_byte l.key ≡ every_byte stored_byte (drop l.i l.key) }
 
 abbrev pub decreases-loop-i : goal.decreases-loop-i
 decreases-loop-i l = length l.key - l.i

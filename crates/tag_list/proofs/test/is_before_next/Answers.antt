@@ -1,14 +1,14 @@
 -- The last tag has none to come before; else the two keys are compared.
 use Rattle.std.proofs.Common.{lt-ltb, le-ltb}
-use Rattle.tag_list.specs.Test.{beforeNext}
+use Rattle.tag_list.specs.Test.{before_next}
 use Rattle.tag_list.proofs.test.is_before_next.Goals as goal
 
 pub returns-then-left-lt2 : goal.returns-then-left-lt2
-unfolding beforeNext
+unfolding before_next
 returns-then-left-lt2 c = rw (lt-ltb c.args.left 2 c.if-left-lt2.true)
 
 pub returns : goal.returns
-unfolding beforeNext
+unfolding before_next
 returns c =
     rw (
       le-ltb c.args.left 2 c.if-left-lt2.false,

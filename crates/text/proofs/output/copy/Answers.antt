@@ -1,9 +1,9 @@
 use Rattle.std.proofs.Common.{rules, sym}
-use Rattle.text.proofs.Put.{put-none, put_copy}
+use Rattle.text.proofs.Put.{put_none, put_copy}
 use Rattle.text.proofs.output.copy.Goals as goal
 
 pub loop-i-init : goal.loop-i-init
-loop-i-init c = record { within = search rules; output = sym (put-none _ _) }
+loop-i-init c = record { within = search rules; output = sym (put_none _ _) }
 
 pub loop-i-preserved : goal.loop-i-preserved
 loop-i-preserved c = record {
