@@ -127,7 +127,7 @@ fn take_pair(
     to: &[u8],
 ) -> FieldTaken
     requires { FittingState (tables refs.old subs.old trans.old pool.old state.sizes) own.now state.own }
-    ensures { TakenAs (tables refs.new subs.new trans.new pool.new) own.now result (judged (with_pair kind (record { from = from.entry.now; to = to.now }) (graph_now (tables refs.old subs.old trans.old pool.old state.sizes) own.now state.own))) }
+    ensures { TakenAs (tables refs.new subs.new trans.new pool.new) own.now result (judged (with_pair kind (record { from = from.now; to = to.now }) (graph_now (tables refs.old subs.old trans.old pool.old state.sizes) own.now state.own))) }
 {
     if MAX_NAME_BYTES < from.len() {
         return FieldTaken::Wrong(11);

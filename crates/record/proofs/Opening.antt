@@ -1,5 +1,5 @@
 -- The one way to refuse: from the number that the code has of the buffers, what was opened of them is that refusal, or with nothing wrong
--- the meanings. A further kind of buffer joins by `refuses-some`.
+-- the meanings. A further kind of buffer joins by its law that refusals have numbers (`Numbered`).
 use mathlib.Core.Path.{◌≡◌, refl, sym, ap, ap₂, ◌∙◌}
 use mathlib.Core.Logic.{◌≢◌}
 use mathlib.Core.Bool.{Bool, true, false, cond, ◌&&◌}

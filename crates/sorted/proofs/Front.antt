@@ -11,10 +11,10 @@ module _ {A : Type 0} (f : A → A) (d : A) where
   abbrev pub front : ℕ → List A → List A
   front i a = map f (take i a) ++ drop i a
 
-  pub get_d_front : (i : ℕ) (a : List A) → i < length a → get_or (front i a) i d ≡ get_or a i d
-  get_d_front i [] h = absurd (omega arith)
-  get_d_front zero (x ∷ xs) h = refl
-  get_d_front (suc i) (x ∷ xs) h = get_d_front i xs (omega arith)
+  pub get_or_front : (i : ℕ) (a : List A) → i < length a → get_or (front i a) i d ≡ get_or a i d
+  get_or_front i [] h = absurd (omega arith)
+  get_or_front zero (x ∷ xs) h = refl
+  get_or_front (suc i) (x ∷ xs) h = get_or_front i xs (omega arith)
 
   set_front : (i : ℕ) (a : List A) → i < length a → set (front i a) i (f (get_or a i d)) ≡ front (suc i) a
   set_front i [] h = absurd (omega arith)
@@ -23,7 +23,7 @@ module _ {A : Type 0} (f : A → A) (d : A) where
 
   -- a turn of the loop, as the code has it
   pub front_turn : (i : ℕ) (a l : List A) (v : A) → i < length a → l ≡ front i a → v ≡ f (get_or l i d) → set l i v ≡ front (i + 1) a
-  front_turn i a l v h e w = rw (w, e, get_d_front i a h, add-one i) (set_front i a h)
+  front_turn i a l v h e w = rw (w, e, get_or_front i a h, add-one i) (set_front i a h)
 
   pub take_front : (i : ℕ) (a : List A) → i ≤ length a → take i (front i a) ≡ map f (take i a)
   take_front i a h = take_at (map f (take i a)) (drop i a) i (rw (length-map (take i a) f) (length-take-le i a h))

@@ -62,3 +62,6 @@ zeros_only [] h = refl
 zeros_only (x ∷ xs) h =
     let p = both_true (eqb x 0) (all_zero xs) h in
     ap₂ ◌∷◌ (eqb-true x 0 p.0) (zeros_only xs p.1)
+
+-- what a byte by itself says of the bytes from it on
+pub ruleset last_zeros = (zeros_end, zeros_false, zeros_more)

@@ -40,6 +40,7 @@ fn zero_end(b: &[u8], i: usize) -> bool
 }
 
 // Whether all bytes from `at` on are zero.
+#[tactic(auto, using(crate::proofs::Blocks::last_zeros))]
 pub fn zeros_from(b: &[u8], at: usize) -> bool
     requires { at ≤ length b.now }
     ensures { result ≡ all_zero (drop at b.now) }

@@ -1,7 +1,7 @@
 use Rattle.std.proofs.Common.{rules, arith, get_or}
 use Rattle.sorted.specs.Sorted.{renumbered}
 use Rattle.sorted.proofs.Renumber.{Small, small_at}
-use Rattle.sorted.proofs.Front.{get_d_front, front_turn}
+use Rattle.sorted.proofs.Front.{get_or_front, front_turn}
 use Rattle.sorted.proofs.numbers.renumber.Goals as goal
 use Rattle.sorted.proofs.numbers.renumber.Goals.{After-step}
 
@@ -9,7 +9,7 @@ use Rattle.sorted.proofs.numbers.renumber.Goals.{After-step}
 small : (c : After-step) → Small 65535 (get_or c.loop-i.a c.loop-i.i 0)
 small c =
     let a = c.args in
-    rw (c.loop-i.invariant.pairs, get_d_front (renumbered a.p) 0 c.loop-i.i a.a.now (omega arith))
+    rw (c.loop-i.invariant.pairs, get_or_front (renumbered a.p) 0 c.loop-i.i a.a.now (omega arith))
     (small_at 65535 a.n a.a.now c.loop-i.i (search rules) c.requires.1 c.loop-i-test.true)
 
 pub overflow_add-a : goal.overflow_add-a
