@@ -2,7 +2,7 @@
 use mathlib.Core.Path.{◌≡◌, refl, ap}
 use mathlib.Core.Logic.{◌⊎◌, inl, inr, ⊎_elim}
 use mathlib.Core.List.{List, [], ◌∷◌, ◌++◌, map, Memᴰ}
-use mathlib.Core.Option.{some}
+use Rattle.std.specs.Prelude.{Some}
 use Prim.Native.Nat.{ℕ, suc, ◌+◌, ◌*◌, ◌≤◌, ◌<◌}
 use native.Mathlib.Omega.{arith}
 use lib.ListN.{length, length-append}
@@ -93,7 +93,7 @@ module _ (g h : GraphName) where
       (λ (w : Memᴰ y (nexts ss)). path_listed b ss s.next p.1 y w)
       (mathlib.Core.List.Memᴰ.cases_cons m)
 
-  pub best_fits : (b c a e : Bytes) (ss : List Step) → decode b ≡ some g → decode c ≡ some h → g.name ≡ some a → Best (by_either g h) a ss e → length (path_bytes a ss) ≤ 49152
+  pub best_fits : (b c a e : Bytes) (ss : List Step) → decode b ≡ Some g → decode c ≡ Some h → g.name ≡ Some a → Best (by_either g h) a ss e → length (path_bytes a ss) ≤ 49152
   best_fits b c a e ss d f n q =
       let s = judge_sizes g (decoded b g d).0.sizes in
       let t = judge_sizes h (decoded c h f).0.sizes in

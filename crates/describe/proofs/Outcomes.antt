@@ -3,16 +3,17 @@ use mathlib.Core.Path.{◌≡◌, refl, sym, ap, ◌∙◌}
 use mathlib.Core.Logic.{◌≢◌}
 use mathlib.Core.Bool.{Bool, true, false, cond, ◌&&◌}
 use mathlib.Core.List.{List}
-use mathlib.Core.Option.{Option, some, none}
+use Rattle.std.specs.Prelude.{Option, Some, None, Ok, Err}
 use Prim.Native.Nat.{ℕ}
 use native.Mathlib.Omega.{arith}
 use lib.Dec.{leb}
 use lib.ListN.{length}
+use Rattle.model.specs.declared.fault.Fault.TheVariants.{LongDesc}
 use Rattle.model.specs.Bytes.{Bytes}
 use Rattle.model.specs.Record.{GraphName}
 use Rattle.model.specs.Layout.{shown, decode}
 use Rattle.model.specs.Questions.{asked_both}
-use Rattle.model.specs.Opening.{Given, refuses, gives, fault_of_both}
+use Rattle.model.specs.Opening.{Given, fault_of_both}
 use Rattle.model.specs.Path.{Step, full_path}
 use Rattle.model.specs.Describe.{StepFrom, steps_from, after_last_empty, or_no_name, describe_path, describe_none, described, describe_relationship}
 use Rattle.model.specs.Written.{within, with_descs, relationship_written}
@@ -23,15 +24,15 @@ use Rattle.path_bytes.proofs.ReadBack.{path_in, start_read, path_steps_lem}
 use Rattle.describe.specs.Lines.{no_path_text, OwnNameIn}
 use Rattle.describe.specs.Direction.{NoPath, HasPath, text_written, path_text}
 
-one_record : (b : Bytes) (g h : GraphName) → decode b ≡ some g → decode b ≡ some h → g ≡ h
-one_record b g h d e = let same : ◌≡◌ {A = Option GraphName} (some g) (some h) = sym d ∙ e in cc
+one_record : (b : Bytes) (g h : GraphName) → decode b ≡ Some g → decode b ≡ Some h → g ≡ h
+one_record b g h d e = let same : ◌≡◌ {A = Option GraphName} (Some g) (Some h) = sym d ∙ e in cc
 
-own_shown : (b : Bytes) (g : GraphName) → decode b ≡ some g → g.name ≡ (shown b).name
+own_shown : (b : Bytes) (g : GraphName) → decode b ≡ Some g → g.name ≡ (shown b).name
 own_shown b g d = ap (λ (h : GraphName). h.name) (sym (decode_shown b g d))
 
 -- the test of the descs is the same with the sides exchanged
 exchanged : (t from to : Bytes) (room : ℕ) → text_written t from to room ≡ text_written t to from room
-exchanged t from to room = ap (λ (x : Bool). within room (cond x (gives t) (refuses 18))) (go (leb (length from) 4096) (leb (length to) 4096))
+exchanged t from to room = ap (λ (x : Bool). within room (cond x (Ok t) (Err LongDesc))) (go (leb (length from) 4096) (leb (length to) 4096))
   where
     go : (x y : Bool) → (x && y) ≡ (y && x)
     go true true = refl
@@ -41,7 +42,7 @@ exchanged t from to room = ap (λ (x : Bool). within room (cond x (gives t) (ref
 
 -- the text of the path whose bytes are p
 path_described : (b c p from to : Bytes) (w : HasPath b c p) (otherwise : Bytes)
-    → described w.g.name from to (some w.steps) otherwise ≡ path_text p from to
+    → described w.g.name from to (Some w.steps) otherwise ≡ path_text p from to
 path_described b c p from to w otherwise =
     let start = start_read p w.start w.steps w.rest w.bytes w.size in
     let listed = path_steps_lem p w.start w.steps w.rest w.bytes w.size in
@@ -50,12 +51,12 @@ path_described b c p from to w otherwise =
     ∙ ap (λ (ls : List StepFrom). describe_path (start_at p) (after_last_empty ls) from to) (sym listed)
 
 module _ (b c s o : Bytes) (room : ℕ) where
-  pub written_fault : (n : ℕ) → (n ≡ fault_of_both b c) × (n ≢ 0) → relationship_written b c s o room ≡ refuses n
+  pub written_fault : (n : ℕ) → (n ≡ fault_of_both b c) × (n ≢ 0) → relationship_written b c s o room ≡ Err n
   unfolding relationship_written
   written_fault n q =
       ap (λ (x : Given Bytes). within room (with_descs s o x)) (sym (refused_both b c (λ g h. describe_relationship g h s o) n q.0 q.1))
 
-  written_of : (g h : GraphName) → decode b ≡ some g → decode c ≡ some h → relationship_written b c s o room ≡ text_written (describe_relationship g h s o) s o room
+  written_of : (g h : GraphName) → decode b ≡ Some g → decode c ≡ Some h → relationship_written b c s o room ≡ text_written (describe_relationship g h s o) s o room
   unfolding relationship_written asked_both
   written_of g h d e = rw (two_decoded b c g h d e)
 
@@ -67,7 +68,7 @@ module _ (b c s o : Bytes) (room : ℕ) where
       ∙ ap (λ (t : Bytes). text_written t s o room)
       (ap (λ (x : Option (List Step)). described w.g.name s o x back) w.path ∙ path_described b c p s o w back)
 
-  no_path : (w : NoPath b c) (g h : GraphName) → decode b ≡ some g → decode c ≡ some h → full_path g h ≡ none
+  no_path : (w : NoPath b c) (g h : GraphName) → decode b ≡ Some g → decode c ≡ Some h → full_path g h ≡ None
   no_path w g h d e =
       ap (λ (x : GraphName). full_path x h) (one_record b g w.g d w.first) ∙ ap (full_path w.g) (one_record c h w.h e w.second) ∙ w.path
 

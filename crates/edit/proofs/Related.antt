@@ -2,7 +2,7 @@
 use mathlib.Core.Path.{◌≡◌, refl, ap, ap₂, ◌∙◌}
 use mathlib.Core.Logic.{◌≢◌}
 use mathlib.Core.Bool.{true, false}
-use mathlib.Core.Option.{Option, some, none}
+use Rattle.std.specs.Prelude.{Option, Some, None}
 use Prim.Native.Nat.{ℕ, ◌+◌, ◌≤◌}
 use native.Mathlib.Omega.{arith}
 use lib.ListN.{length, take, drop}
@@ -45,9 +45,9 @@ module _ (kind : Kind) (b c : Bytes) where
     pub relate_parentless : is_some (shown c).name ≡ false → relate kind b c ≡ outcome 0 b
     relate_parentless e = relate_opened ∙ ap (relation (shown b).name) (unnamed (shown c).name e) ∙ go (shown b).name
       where
-        go : (o : Option Bytes) → relation o none ≡ outcome 0 b
-        go none = refl
-        go (some n) = refl
+        go : (o : Option Bytes) → relation o None ≡ outcome 0 b
+        go None = refl
+        go (Some n) = refl
 
 -- all pairs of another record added
 module _ (b c : Bytes) where

@@ -1,6 +1,5 @@
 -- A change of a record: the pairs of another, if it is merged, and one pair more, if there is one. The room that it takes.
-use Rattle.std.specs.Prelude.{◌≡◌, Bool, true, false, List, ℕ, ◌+◌, ◌*◌, ◌≤◌, length}
-use Rattle.std.proofs.Math.Option.{Option}
+use Rattle.std.specs.Prelude.{◌≡◌, Bool, true, false, List, ℕ, ◌+◌, ◌*◌, ◌≤◌, length, Option}
 use Rattle.model.specs.Bytes.{Bytes}
 use Rattle.model.specs.declared.Kind.{Kind}
 use Rattle.model.specs.Record.{Pair, GraphName, with_pair, max_name_bytes}

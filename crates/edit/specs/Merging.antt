@@ -1,6 +1,5 @@
 -- The pairs of another record put into tables, if it is merged: the room that they take, and what the tables show then.
-use Rattle.std.specs.Prelude.{◌≡◌, Bool, true, false, ◌+◌, ◌≤◌}
-use Rattle.std.proofs.Math.Option.{Option}
+use Rattle.std.specs.Prelude.{◌≡◌, Bool, true, false, ◌+◌, ◌≤◌, Option}
 use Rattle.model.specs.Bytes.{Bytes}
 use Rattle.model.specs.Record.{GraphName, with_relationships}
 use Rattle.sorted.specs.declared.putting.Sizes.{Sizes}

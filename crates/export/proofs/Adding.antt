@@ -2,10 +2,10 @@
 use mathlib.Core.Path.{◌≡◌, refl, ap, ◌∙◌}
 use mathlib.Core.List.Memᴰ
 use mathlib.Core.List.{List, [], ◌∷◌, ◌++◌, append-nil}
-use mathlib.Core.Option.{Option, some}
+use Rattle.std.specs.Prelude.{Option, Some}
 use Prim.Native.Nat.{ℕ}
 use lib.Seq.{append_snoc}
-use Rattle.model.specs.declared.Order.{Order}
+use Rattle.std.specs.declared.cmp.Ordering.{Ordering}
 use Rattle.model.specs.Bytes.{Bytes}
 use Rattle.model.specs.declared.Kind.TheVariants.{Subgraph, Translation}
 use Rattle.model.specs.Record.{Pair, GraphName, insert, empty, with_name, judge}
@@ -15,7 +15,7 @@ use Rattle.text.proofs.Order.{StrictOrder, pairs_order}
 use Rattle.text.proofs.Ascending.{ascending_tail, ascending_below}
 use Rattle.export.proofs.Sizes.{judge_front}
 
-insert_last : {A : Type 0} {cmp : A → A → Order} → StrictOrder cmp → (xs : List A) (p : A) (ps : List A) → Ascending cmp (xs ++ (p ∷ ps))
+insert_last : {A : Type 0} {cmp : A → A → Ordering} → StrictOrder cmp → (xs : List A) (p : A) (ps : List A) → Ascending cmp (xs ++ (p ∷ ps))
     → insert cmp p xs ≡ xs ++ (p ∷ [])
 unfolding insert
 insert_last ord [] p ps a = refl
@@ -29,7 +29,7 @@ judged_took g e = rw e
 -- with the pairs `xs` added, the next of `all` is added behind them
 pub record Adds (add : GraphName → Option Pair → Option GraphName) (state : List Pair → GraphName) (all : List Pair) : Type 0 where
   pub next : (xs : List Pair) (p : Pair) (ps : List Pair) → xs ++ (p ∷ ps) ≡ all → (number : ℕ)
-      → or_wrong number (add (state xs) (some p)) ≡ took (state (xs ++ (p ∷ [])))
+      → or_wrong number (add (state xs) (Some p)) ≡ took (state (xs ++ (p ∷ [])))
 
 -- g with these of its subgraph pairs and no translation pair yet; g with these of its translation pairs
 abbrev pub with_subgraphs : GraphName → List Pair → GraphName
@@ -58,5 +58,5 @@ module _ (g : GraphName) (v : Valid g) where
   }
 
   -- the own name, as the first thing read
-  pub name_alone : (n : Bytes) → g.name ≡ some n → judged (with_name n empty) ≡ took (with_name n empty)
+  pub name_alone : (n : Bytes) → g.name ≡ Some n → judged (with_name n empty) ≡ took (with_name n empty)
   name_alone n e = judged_took (with_name n empty) (rw e at (judge_front g.name [] g.subgraph [] g.translation v.sizes))

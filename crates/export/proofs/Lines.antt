@@ -2,7 +2,7 @@
 use mathlib.Core.Path.{◌≡◌, refl, sym, ◌∙◌}
 use mathlib.Core.List.Memᴰ
 use mathlib.Core.List.{List, [], ◌∷◌, ◌++◌, append_assoc, append-nil, Memᴰ}
-use mathlib.Core.Option.{Option, some, none}
+use Rattle.std.specs.Prelude.{Option, Some, None}
 use Prim.Native.Nat.{ℕ, suc, ◌+◌}
 use lib.ListN.{length}
 use lib.Seq.{append_snoc}
@@ -53,7 +53,7 @@ pair_line before between p = before ++ p.from ++ (between ∷ p.to)
 -- the line of p adds it, if it can be added
 pub record AddsLine (add : GraphName → Option Pair → Option GraphName) (p : Pair) (l : Bytes) : Type 0 where
   pub whole : Without 10 l
-  pub takes : (g k : GraphName) → ((number : ℕ) → or_wrong number (add g (some p)) ≡ took k) → Takes l g k
+  pub takes : (g k : GraphName) → ((number : ℕ) → or_wrong number (add g (Some p)) ≡ took k) → Takes l g k
 
 module _ (before : Bytes) (between : ℕ) {add : GraphName → Option Pair → Option GraphName} {state : List Pair → GraphName} {all : List Pair}
     (adds : Adds add state all) (line_adds : (p : Pair) → Memᴰ p all → AddsLine add p (pair_line before between p)) where
@@ -77,17 +77,17 @@ pub record NamesLine (n : Bytes) (l : Bytes) : Type 0 where
   pub whole : Without 10 l
   pub takes : Takes l empty (with_name n empty)
 
-read_name : (before : Bytes) (o : Option Bytes) (r : Bytes) (k : GraphName) → ((n : Bytes) → o ≡ some n → NamesLine n (before ++ n))
+read_name : (before : Bytes) (o : Option Bytes) (r : Bytes) (k : GraphName) → ((n : Bytes) → o ≡ Some n → NamesLine n (before ++ n))
     → ReadFrom r (record { name = o; subgraph = []; translation = [] }) k → ReadFrom (name_line before o ++ r) empty k
-read_name before none r k h rest = rest
-read_name before (some n) r k h rest =
+read_name before None r k h rest = rest
+read_name before (Some n) r k h rest =
     let here = h n refl in
     let shape : (before ++ n ++ (10 ∷ [])) ++ r ≡ (before ++ n) ++ (10 ∷ r) = simp append_assoc in
     rw shape (read_line (before ++ n) r empty (with_name n empty) k here.whole here.takes rest)
 
 -- the lines of a format: what stands before the own name and before a pair of each kind, and what stands between two names
 module _ (name_before subgraph_before translation_before : Bytes) (between : ℕ) (g : GraphName) (v : Valid g)
-    (name_line_lem : (n : Bytes) → g.name ≡ some n → NamesLine n (name_before ++ n))
+    (name_line_lem : (n : Bytes) → g.name ≡ Some n → NamesLine n (name_before ++ n))
     (subgraph_line : (p : Pair) → Memᴰ p g.subgraph → AddsLine (add_to Subgraph) p (pair_line subgraph_before between p))
     (translation_line : (p : Pair) → Memᴰ p g.translation → AddsLine (add_to Translation) p (pair_line translation_before between p)) where
   pub lines_read_back : from_header_lines (name_line name_before g.name ++ pair_lines subgraph_before between g.subgraph

@@ -4,7 +4,7 @@ use mathlib.Core.List.Memᴰ
 use mathlib.Core.List.{List, [], ◌∷◌, ◌++◌, Memᴰ}
 use mathlib.Core.Logic.{◌⊎◌, inl, inr, ⊎_elim, ◌≢◌}
 use mathlib.Core.Bool.{Bool, true, false, cond}
-use mathlib.Core.Option.{some}
+use Rattle.std.specs.Prelude.{Some}
 use Prim.Native.Nat.{ℕ, suc}
 use lib.Dec.{eqb}
 use lib.ListN.{length}
@@ -56,17 +56,17 @@ module _ (sep : ℕ) where
   split_two s t v w = rw (split_part s t v, split_whole t w)
 
 -- two names, neither empty
-pub two_parts_lem : (p : Pair) → p.from ≢ [] → p.to ≢ [] → two_parts (p.from ∷ p.to ∷ []) ≡ some p
+pub two_parts_lem : (p : Pair) → p.from ≢ [] → p.to ≢ [] → two_parts (p.from ∷ p.to ∷ []) ≡ Some p
 two_parts_lem p m n = go p.from p.to m n
   where
-    go : (a b : Bytes) → a ≢ [] → b ≢ [] → two_parts (a ∷ b ∷ []) ≡ some (record { from = a; to = b })
+    go : (a b : Bytes) → a ≢ [] → b ≢ [] → two_parts (a ∷ b ∷ []) ≡ Some (record { from = a; to = b })
     go [] b m n = absurd (m refl)
     go (x ∷ xs) [] m n = absurd (n refl)
     go (x ∷ xs) (y ∷ ys) m n = refl
 
 -- two names round a comma
 pub comma_pair : (p : Pair) → p.from ≢ [] → p.to ≢ [] → Without 44 p.from → Without 44 p.to
-    → two_parts (split 44 (p.from ++ (44 ∷ p.to))) ≡ some p
+    → two_parts (split 44 (p.from ++ (44 ∷ p.to))) ≡ Some p
 comma_pair p m n v w = rw (split_two 44 p.from p.to v w) (two_parts_lem p m n)
 
 -- ------------------------------------------------------------------ lines

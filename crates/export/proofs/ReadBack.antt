@@ -4,7 +4,7 @@ use mathlib.Core.Logic.{inl, inr, ◌≢◌}
 use mathlib.Core.Bool.{true}
 use mathlib.Core.List.Memᴰ
 use mathlib.Core.List.{List, [], ◌∷◌, ◌++◌, append-nil, Memᴰ}
-use mathlib.Core.Option.{Option, some, none}
+use Rattle.std.specs.Prelude.{Option, Some, None}
 use Prim.Native.Nat.{ℕ, suc, ◌+◌}
 use native.Mathlib.Omega.{arith}
 use lib.Dec.{leb}
@@ -40,7 +40,7 @@ module _ (x y number : ℕ) {add : GraphName → Option Pair → Option GraphNam
         (kind g _ ∙ rw (two_parts_lem p a.0 b.0) (e number));
   }
 
-one_name_lem : (g : GraphName) (n : Bytes) → n ≢ [] → one_name g (n ∷ []) ≡ some (with_name n g)
+one_name_lem : (g : GraphName) (n : Bytes) → n ≢ [] → one_name g (n ∷ []) ≡ Some (with_name n g)
 one_name_lem g [] m = absurd (m refl)
 one_name_lem g (x ∷ xs) m = refl
 
@@ -159,5 +159,5 @@ tags_read_back g v plain =
     )
   where
     read_name : (o : Option Bytes) → g.name ≡ o → name_value o empty ≡ done (record { name = o; subgraph = []; translation = [] })
-    read_name none e = unfold name_value in refl
-    read_name (some n) e = unfold name_value in rw (name_alone g v n e)
+    read_name None e = unfold name_value in refl
+    read_name (Some n) e = unfold name_value in rw (name_alone g v n e)

@@ -4,7 +4,7 @@ use mathlib.Core.Logic.{◌⊎◌, inl, inr, ⊎_elim, ◌↔◌}
 use mathlib.Core.Bool.{false}
 use mathlib.Core.List.Memᴰ
 use mathlib.Core.List.{List, [], ◌∷◌, ◌++◌, Memᴰ}
-use mathlib.Core.Option.{Option, some}
+use Rattle.std.specs.Prelude.{Option, Some}
 use Prim.Native.Nat.{ℕ, ◌≤◌}
 use native.Mathlib.Omega.{arith}
 use lib.ListN.{length, length-append}
@@ -88,7 +88,7 @@ pair_mentioned (q ∷ qs) p m = go (Memᴰ.cases_cons m) (pair_mentioned qs p)
     go (inl e) rest = (Memᴰ.head (ap (λ (x : Pair). x.from) e), Memᴰ.tail (Memᴰ.head (ap (λ (x : Pair). x.to) e)))
     go (inr n) rest = let r = rest n in (Memᴰ.tail (Memᴰ.tail r.0), Memᴰ.tail (Memᴰ.tail r.1))
 
-pub own_named : (g : GraphName) (n : Bytes) → g.name ≡ some n → Memᴰ n (names g)
+pub own_named : (g : GraphName) (n : Bytes) → g.name ≡ Some n → Memᴰ n (names g)
 own_named g n e = let m : Memᴰ n (own_name g.name) = rw e (Memᴰ.head refl) in own_listed g n m
 
 pub pair_named : (g : GraphName) (k : Kind) (p : Pair) → Memᴰ p (pairs_of k g) → Memᴰ p.from (names g) × Memᴰ p.to (names g)

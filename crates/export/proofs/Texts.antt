@@ -2,7 +2,7 @@
 use mathlib.Core.Path.{◌≡◌, refl, sym, ap, ◌∙◌}
 use mathlib.Core.Logic.{◌≢◌}
 use mathlib.Core.List.{List, [], ◌∷◌, ◌++◌, append_assoc, append-nil}
-use mathlib.Core.Option.{Option, some, none}
+use Rattle.std.specs.Prelude.{Option, Some, None}
 use Prim.Native.Nat.{ℕ, zero, suc, ◌+◌, ◌-◌}
 use native.Mathlib.Omega.{arith}
 use Rattle.model.specs.declared.Kind.{Kind}
@@ -18,12 +18,12 @@ use Rattle.export.specs.Texts.{name_text, pair_text, pair_texts, pairs_text, hea
 -- ------------------------------------------------------------------ lines and relations
 
 name_text_lem : (before : Bytes) (o : Option Bytes) → name_line before o ≡ name_text before (10 ∷ []) o
-name_text_lem before none = refl
-name_text_lem before (some n) = refl
+name_text_lem before None = refl
+name_text_lem before (Some n) = refl
 
 pub name_value : (o : Option Bytes) → name_text [] [] o ≡ value_text o
-name_value none = refl
-name_value (some n) = append-nil n
+name_value None = refl
+name_value (Some n) = append-nil n
 
 lines_run : (before : Bytes) (between : ℕ) (ps : List Pair) → pair_lines before between ps ≡ pair_texts before between (10 ∷ []) ps
 unfolding pair_lines pair_texts
@@ -85,10 +85,10 @@ module _ (b : Bytes) (k : Kind) (count : ℕ) (e : count ≡ pair_count k b) whe
       ≡ pair_text first between after (name_at b (number b at)) (name_at b (number b (at + 2))) ++ pair_texts before between after (pairs_from b (at + 4) (count - 1))
   pairs_first n first before between after at d = rw d (ap (pairs_text first before between after) (first_pair n))
 
-  pub no_relations : count ≡ 0 → relations_tag (pairs_of k (shown b)) ≡ none
+  pub no_relations : count ≡ 0 → relations_tag (pairs_of k (shown b)) ≡ None
   unfolding relations_tag
   no_relations z = ap relations_tag (no_pairs z)
 
-  pub some_relations : count ≢ 0 → relations_tag (pairs_of k (shown b)) ≡ some (value_text (relations_tag (pairs_of k (shown b))))
+  pub some_relations : count ≢ 0 → relations_tag (pairs_of k (shown b)) ≡ Some (value_text (relations_tag (pairs_of k (shown b))))
   unfolding relations_tag
   some_relations n = rw (first_pair n)

@@ -1,9 +1,8 @@
 -- What each case of a writer's answer means: a refusal's number, or how many bytes were written.
-use Rattle.std.specs.Prelude.{◌≡◌, ℕ, length}
-use Rattle.std.proofs.Math.Option.{Option, some, none}
+use Rattle.std.specs.Prelude.{◌≡◌, ℕ, length, Option, Some, None, Ok, Err}
 use Rattle.model.specs.Bytes.{Bytes}
 use Rattle.model.specs.Questions.{mapped}
-use Rattle.model.specs.Opening.{Given, refuses, gives}
+use Rattle.model.specs.Opening.{Given}
 use Rattle.model.specs.Written.{size_written, output_with, Tags, TagSizes, tag_sizes, put_value, output_with_tag}
 use Rattle.export.specs.declared.answer.Written.{Written}
 use Rattle.export.specs.declared.answer.Written.TheVariants.{Refused, Wrote}
@@ -13,8 +12,8 @@ use Rattle.export.specs.declared.answer.WrittenTags.{WrittenTags}
 use Rattle.export.specs.declared.answer.WrittenTags.TheVariants as tags
 
 abbrev pub size_given : Written → Given ℕ
-size_given (Refused n) = refuses n
-size_given (Wrote n) = gives n
+size_given (Refused n) = Err n
+size_given (Wrote n) = Ok n
 
 -- the answer, and what the output holds
 pub record Answers (given : Given Bytes) (out : Bytes) (r : Written) (after : Bytes) : Type 0 where
@@ -24,12 +23,12 @@ pub record Answers (given : Given Bytes) (out : Bytes) (r : Written) (after : By
 -- ------------------------------------------------------------------ tags
 
 abbrev pub tag_size : Tag → Option ℕ
-tag_size Absent = none
-tag_size (Size n) = some n
+tag_size Absent = None
+tag_size (Size n) = Some n
 
 abbrev pub tags_given : WrittenTags → Given TagSizes
-tags_given (tags.Refused n) = refuses n
-tags_given (tags.Are n s t) = gives (record { name = tag_size n; subgraph = tag_size s; translation = tag_size t })
+tags_given (tags.Refused n) = Err n
+tags_given (tags.Are n s t) = Ok (record { name = tag_size n; subgraph = tag_size s; translation = tag_size t })
 
 -- one value's size, and what its output holds
 pub record TagAnswers (value : Option Bytes) (out : Bytes) (r : Tag) (after : Bytes) : Type 0 where

@@ -1,6 +1,5 @@
 -- The texts that a record is written as, by what stands around its names, whichever the format.
-use Rattle.std.specs.Prelude.{List, [], ◌∷◌, ◌++◌, ℕ}
-use Rattle.std.proofs.Math.Option.{Option, some, none}
+use Rattle.std.specs.Prelude.{List, [], ◌∷◌, ◌++◌, ℕ, Option, Some, None}
 use Rattle.model.specs.Bytes.{Bytes}
 use Rattle.model.specs.Record.{Pair, GraphName}
 use Rattle.model.specs.Questions.{asked}
@@ -10,8 +9,8 @@ use Rattle.model.specs.Written.{within}
 
 -- the own name, if there is one, with `before` and `after`
 abbrev pub name_text : Bytes → Bytes → Option Bytes → Bytes
-name_text before after none = []
-name_text before after (some n) = before ++ n ++ after
+name_text before after None = []
+name_text before after (Some n) = before ++ n ++ after
 
 -- a pair's two names with `before`, `between` and `after`
 abbrev pub pair_text : Bytes → ℕ → Bytes → Bytes → Bytes → Bytes
@@ -38,5 +37,5 @@ lines_written name subgraph translation between b room = within room (asked b (h
 
 -- a tag's value; an absent one has no bytes
 abbrev pub value_text : Option Bytes → Bytes
-value_text none = []
-value_text (some t) = t
+value_text None = []
+value_text (Some t) = t

@@ -2,7 +2,7 @@
 use mathlib.Core.Path.{◌≡◌, refl}
 use mathlib.Core.Bool.{Bool, true, false, cond, not, ◌&&◌}
 use mathlib.Core.List.{List, [], ◌∷◌}
-use mathlib.Core.Option.{Option, some, none}
+use Rattle.std.specs.Prelude.{Option, Some, None}
 use Prim.Native.Nat.{ℕ, suc, ◌+◌, ◌≤◌}
 use native.Mathlib.Numerals.{add-one}
 use lib.ListN.{length, take, drop, get_or}
@@ -53,14 +53,14 @@ module _ (g : GraphName) where
 
   -- a relation of either kind, whatever its separator: also that of a tag
   pub relation_classified : (k : Kind) (n : ℕ) (p : Option Pair) → or_wrong n (add_to k g p) ≡ apply g (related_by k n p)
-  relation_classified k n none = refl
-  relation_classified k n (some p) = refl
+  relation_classified k n None = refl
+  relation_classified k n (Some p) = refl
 
   name_classified : (ws : List Bytes) → or_wrong 6 (one_name g ws) ≡ apply g (one_named ws)
   name_classified [] = refl
   name_classified (w ∷ []) = go (is_empty w)
     where
-      go : (t : Bool) → or_wrong 6 (cond t none (some (with_name w g)))
+      go : (t : Bool) → or_wrong 6 (cond t None (Some (with_name w g)))
           ≡ apply g (cond t (fault 6) (named w))
       go true = refl
       go false = refl

@@ -3,7 +3,7 @@ use mathlib.Core.Path.{◌≡◌, refl, sym, ap, subst, ◌∙◌}
 use mathlib.Core.Logic.{◌⊎◌, inl, inr, ⊎_elim}
 use mathlib.Core.Bool.{Bool, true, false, cond, not, ◌||◌, false≢true}
 use mathlib.Core.List.{List, [], ◌∷◌}
-use mathlib.Core.Option.{Option, some, none}
+use Rattle.std.specs.Prelude.{Option, Some, None}
 use Prim.Native.Nat.{ℕ, suc, ◌+◌, ◌-◌, ◌≤◌, ◌<◌}
 use native.Mathlib.Omega.{arith}
 use lib.Dec.{eqb, ltb, leb}
@@ -67,8 +67,8 @@ FaultIn lo hi (named w) = Unit {0}
 FaultIn lo hi (related k p) = Unit {0}
 
 related_in : (lo hi n : ℕ) → lo ≤ n → n ≤ hi → (k : Kind) (p : Option Pair) → FaultIn lo hi (related_by k n p)
-related_in lo hi n l h k none = (l, h)
-related_in lo hi n l h k (some p) = tt
+related_in lo hi n l h k None = (l, h)
+related_in lo hi n l h k (Some p) = tt
 
 tagged_in : (lo hi n m : ℕ) → lo ≤ n → n ≤ hi → lo ≤ m → m ≤ hi → (tag : Bytes) (ws : List Bytes) → FaultIn lo hi (related_by_tag tag n m ws)
 tagged_in lo hi n m ln nh lm mh tag ws =
@@ -320,7 +320,7 @@ InValue k o r = ((r.number ≡ tag_number k) × (BeginsIn o r × QuotedIn k o r)
 module _ (k : Kind) where
   relation_placed : (v : Bytes) (start : ℕ) (w : Bytes) (n : ℕ) → Begins 59 v start → Stands v start w
       → Alone (tag_number k) (tag_number k) (related_by k (tag_number k) (two_parts (split 44 w))) n ⊎ (10 < n)
-      → OfRefusal (InValue k (some v)) (refuse 0 start start (length w) n)
+      → OfRefusal (InValue k (Some v)) (refuse 0 start start (length w) n)
   unfolding tag_relations
   relation_placed v start w n b s (inl a) =
       let m = tag_number k in
@@ -342,29 +342,29 @@ module _ (k : Kind) where
       rw (le-leb 2 n (omega arith), lt-leb n 10 h) (inr (h, (omega (arith, s.0), b)))
 
   relations_placed : (v : Bytes) (start : ℕ) (ws : List Bytes) (g : GraphName) → Follow 59 (Begins 59 v) v start ws
-      → OfRefusal (InValue k (some v)) (tag_relations (tag_number k) (add_to k) start ws g)
+      → OfRefusal (InValue k (Some v)) (tag_relations (tag_number k) (add_to k) start ws g)
   unfolding tag_relations Follow
   relations_placed v start [] g p = tt
   relations_placed v start (w ∷ ws) g p =
       let m = tag_number k in
       let parts = two_parts (split 44 w) in
-      after_taken_lem (InValue k (some v)) (or_wrong m (add_to k g parts)) _ _ (λ g'. relations_placed v (start + length w + 1) ws g' p.3) λ n e.
+      after_taken_lem (InValue k (Some v)) (or_wrong m (add_to k g parts)) _ _ (λ g'. relations_placed v (start + length w + 1) ws g' p.3) λ n e.
       relation_placed v start w n p.0 p.1
       (field_wrong m m g (related_by k m parts) (related_in m m m (omega arith) (omega arith) k parts) n (sym (relation_classified g k m parts) ∙ e))
 
   -- the whole value, where it is there
   value_placed : (o : Option Bytes) (g : GraphName) → OfRefusal (InValue k o) (tag_value (tag_number k) (add_to k) o g)
   unfolding tag_value
-  value_placed none g = tt
-  value_placed (some v) g =
+  value_placed None g = tt
+  value_placed (Some v) g =
       let p = split_stands 59 (Begins 59 v) v 0 (length v) (λ i l h e. inr (behind 59 v i e)) v 0 (omega arith) (omega arith) (all_stands v) in
       relations_placed v 0 (split 59 v) g (follow_from 59 (Begins 59 v) v 0 (split 59 v) (inl refl) p)
 
 module _ (s t : Option Bytes) where
   name_placed : (n : Option Bytes) (g : GraphName) → OfRefusal (PlacedInTags s t) (name_value n g)
   unfolding name_value
-  name_placed none g = tt
-  name_placed (some v) g = after_taken_lem (PlacedInTags s t) (judged (with_name v g)) done _ (λ g'. tt) λ n e.
+  name_placed None g = tt
+  name_placed (Some v) g = after_taken_lem (PlacedInTags s t) (judged (with_name v g)) done _ (λ g'. tt) λ n e.
       let h = judged_wrong (with_name v g) n e in
       rw (le-leb 2 n (omega arith), lt-leb n 10 h)
       (record {

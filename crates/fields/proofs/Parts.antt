@@ -2,7 +2,7 @@
 use mathlib.Core.Path.{◌≡◌, refl, sym, ap, ◌∙◌}
 use mathlib.Core.Bool.{Bool, true, false, cond}
 use mathlib.Core.List.{List, [], ◌∷◌}
-use mathlib.Core.Option.{some, none}
+use Rattle.std.specs.Prelude.{Some, None}
 use Prim.Native.Nat.{ℕ, ◌+◌, ◌-◌, ◌≤◌, ◌<◌}
 use native.Mathlib.Omega.{arith}
 use native.Mathlib.Numerals.{add-one}
@@ -44,18 +44,18 @@ module _ (sep : ℕ) (s : Bytes) (i e : ℕ) (h : i ≤ length s) (f : e ≡ i +
 pub parts_all : (sep : ℕ) (s : Bytes) → split sep s ≡ parts_from sep s 0
 parts_all sep s = rw (le-leb 0 (length s) (omega arith))
 
-empty_part : (a : Bytes) (ws : List Bytes) → length a ≡ 0 → two_parts (a ∷ ws) ≡ none
+empty_part : (a : Bytes) (ws : List Bytes) → length a ≡ 0 → two_parts (a ∷ ws) ≡ None
 empty_part [] [] e = refl
 empty_part [] (b ∷ []) e = refl
 empty_part [] (b ∷ c ∷ ws) e = refl
 empty_part (x ∷ a) ws e = let z : ◌≡◌ {A = ℕ} 0 1 = omega arith in cc
 
-empty_second : (a b : Bytes) → length b ≡ 0 → two_parts (a ∷ b ∷ []) ≡ none
+empty_second : (a b : Bytes) → length b ≡ 0 → two_parts (a ∷ b ∷ []) ≡ None
 empty_second [] [] e = refl
 empty_second (x ∷ a) [] e = refl
 empty_second a (x ∷ b) e = let z : ◌≡◌ {A = ℕ} 0 1 = omega arith in cc
 
-both_parts : (a b : Bytes) → 0 < length a → 0 < length b → two_parts (a ∷ b ∷ []) ≡ some (record { from = a; to = b })
+both_parts : (a b : Bytes) → 0 < length a → 0 < length b → two_parts (a ∷ b ∷ []) ≡ Some (record { from = a; to = b })
 both_parts [] b h k = let z : ◌≡◌ {A = ℕ} 0 1 = omega arith in cc
 both_parts (x ∷ a) [] h k = let z : ◌≡◌ {A = ℕ} 0 1 = omega arith in cc
 both_parts (x ∷ a) (y ∷ b) h k = refl
@@ -77,7 +77,7 @@ module _ (sep : ℕ) (s : Bytes) (i : ℕ) (f : i ≡ 0 + index_of sep (drop 0 s
   pub no_rest : length s ≤ i → split sep s ≡ take i s ∷ []
   no_rest h = let z : i - 0 ≡ i = omega arith in first_part ∙ rw (z, parts_end sep s (i + 1) (omega arith))
 
-  pub none_before : i ≡ 0 → none ≡ two_parts (split sep s)
+  pub none_before : i ≡ 0 → None ≡ two_parts (split sep s)
   none_before z = sym (ap two_parts first_part ∙ empty_part (between s 0 i) (parts_from sep s (i + 1)) (first_length ∙ z))
 
   -- j is the place of the second, or the length of s
@@ -88,10 +88,10 @@ module _ (sep : ℕ) (s : Bytes) (i : ℕ) (f : i ≡ 0 + index_of sep (drop 0 s
     second_length : length (between s (i + 1) j) ≡ j - (i + 1)
     second_length = part_length sep s (i + 1) j h g
 
-    pub third_part : j < length s → none ≡ two_parts (split sep s)
+    pub third_part : j < length s → None ≡ two_parts (split sep s)
     third_part l = rw (second_part, parts_more sep s (j + 1) (j + 1 + index_of sep (drop (j + 1) s)) (omega arith) refl)
 
-    pub two_parts_lem : (i ≡ 0 → ⊥) → i + 1 < length s → length s ≤ j → some (record { from = take i s; to = drop (i + 1) s }) ≡ two_parts (split sep s)
+    pub two_parts_lem : (i ≡ 0 → ⊥) → i + 1 < length s → length s ≤ j → Some (record { from = take i s; to = drop (i + 1) s }) ≡ two_parts (split sep s)
     two_parts_lem n m l =
         let z : i - 0 ≡ i = omega arith in
         let b : between s (i + 1) j ≡ drop (i + 1) s = take_all (j - (i + 1)) (drop (i + 1) s) (rw length-drop (omega arith)) in
@@ -99,13 +99,13 @@ module _ (sep : ℕ) (s : Bytes) (i : ℕ) (f : i ≡ 0 + index_of sep (drop 0 s
         let q : 0 < length (between s (i + 1) j) = rw second_length (omega arith) in
         sym (ap two_parts second_part ∙ rw (parts_end sep s (j + 1) (omega arith), both_parts (between s 0 i) (between s (i + 1) j) p q, z, b))
 
-  pub none_behind : length s ≤ i + 1 → none ≡ two_parts (split sep s)
+  pub none_behind : length s ≤ i + 1 → None ≡ two_parts (split sep s)
   none_behind h = go (leb (i + 1) (length s)) refl
     where
       j : ℕ
       j = i + 1 + index_of sep (drop (i + 1) s)
 
-      go : (t : Bool) → leb (i + 1) (length s) ≡ t → none ≡ two_parts (split sep s)
+      go : (t : Bool) → leb (i + 1) (length s) ≡ t → None ≡ two_parts (split sep s)
       go false e = rw (first_part, parts_end sep s (i + 1) (leb-false _ _ e))
       go true e =
           let l : i + 1 ≤ length s = leb-true _ _ e in

@@ -20,7 +20,7 @@ use Rattle.fields.specs.Fields.{apply, classify_part, separator_of}
 use Rattle.fields.specs.declared.field.Source.{Source}
 use Rattle.fields.specs.declared.field.Source.TheVariants.{Header, Tag}
 use Rattle.model.specs.declared.Kind.{Kind}
-use mathlib.Core.Option.{some}
+use Rattle.std.specs.Prelude.{Some}
 use Rattle.fields.proofs.Classified.{typed_classified, relation_classified}
 use Rattle.fields.proofs.Parts.{parts_from, between, parts_more, part_length, part_within, first_and_rest, no_rest}
 
@@ -96,7 +96,7 @@ pub header_start : (t : Bytes) → from_header_lines t ≡ rest_of Header t 0 0 
 unfolding from_header_lines rest_of typed_fields
 header_start t = refl
 
-pub tag_start : (k : Kind) (t : Bytes) (g : GraphName) → tag_value (tag_number k) (add_to k) (some t) g ≡ rest_of (Tag k) t 0 (length t + 1) 0 g
+pub tag_start : (k : Kind) (t : Bytes) (g : GraphName) → tag_value (tag_number k) (add_to k) (Some t) g ≡ rest_of (Tag k) t 0 (length t + 1) 0 g
 unfolding tag_value rest_of
 tag_start k t g =
     let e : length t + 1 - 1 ≡ length t = omega arith in

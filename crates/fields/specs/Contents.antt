@@ -1,6 +1,5 @@
 -- What the answers about a field mean: its type, its two parts, and its contents, where names are given by their places.
-use Rattle.std.specs.Prelude.{cond, ◌+◌, ◌-◌, ◌<◌, ◌≤◌, length, take, drop, get_or, eqb}
-use Rattle.std.proofs.Math.Option.{Option, some, none}
+use Rattle.std.specs.Prelude.{cond, ◌+◌, ◌-◌, ◌<◌, ◌≤◌, length, take, drop, get_or, eqb, Option, Some, None}
 use Rattle.model.specs.Bytes.{Bytes}
 use Rattle.model.specs.Record.{Pair}
 use Rattle.model.specs.Reading.{is_typed}
@@ -18,8 +17,8 @@ type_of f = cond (is_typed f) (cond (eqb (get_or f 3 0) 90) String Other) Untype
 
 -- the two parts round the separator at a place of s
 abbrev pub parts_of : Bytes → TwoParts → Option Pair
-parts_of s Absent = none
-parts_of s (At i) = some (record { from = take i s; to = drop (i + 1) s })
+parts_of s Absent = None
+parts_of s (At i) = Some (record { from = take i s; to = drop (i + 1) s })
 
 -- neither part is empty
 abbrev pub NeitherEmpty : Bytes → TwoParts → Type 0

@@ -1,6 +1,5 @@
 -- What a field, an `@` line or a relation of a tag says by itself, apart from the graph name that it is read into.
-use Rattle.std.specs.Prelude.{cond, not, List, [], ◌∷◌, ℕ, take, drop, get_or, eqb}
-use Rattle.std.proofs.Math.Option.{Option, some, none}
+use Rattle.std.specs.Prelude.{cond, not, List, [], ◌∷◌, ℕ, take, drop, get_or, eqb, Option, Some, None}
 use Rattle.model.specs.declared.Kind.{Kind}
 use Rattle.model.specs.declared.Kind.TheVariants.{Subgraph, Translation}
 use Rattle.model.specs.Text.{text}
@@ -26,8 +25,8 @@ apply g (related k p) = judged (with_pair k p g)
 
 -- a pair of a kind, or the number for its absence
 abbrev pub related_by : Kind → ℕ → Option Pair → FieldMeaning
-related_by k n none = fault n
-related_by k n (some p) = related k p
+related_by k n None = fault n
+related_by k n (Some p) = related k p
 
 -- a relation of a tag, which is of the tag's kind
 abbrev pub classify_relation : Kind → ℕ → Bytes → FieldMeaning

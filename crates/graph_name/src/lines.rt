@@ -3,7 +3,7 @@ ghost use Rattle.std.specs.Prelude.{◌≡◌};
 ghost use Rattle.model.specs.Strict.{strict};
 ghost use Rattle.model.specs.Values.{strict_number};
 
-use model::Strictness;
+
 
 // 0 for a line that is fine, else one more than the number of the first faulty field.
 #[unsafe(no_mangle)]
@@ -11,7 +11,7 @@ pub extern "C" fn graph_name_check_strict(line: &[u8]) -> u64
     ensures { result ≡ strict_number (strict line.now) }
 {
     match strict::check_strict(line) {
-        Strictness::Fine => 0,
-        Strictness::Faulty(n) => n as u64 + 1,
+        Ok(()) => 0,
+        Err(n) => n as u64 + 1,
     }
 }

@@ -4,14 +4,15 @@ use mathlib.Core.Path.{◌≡◌, refl, sym, ap, ◌∙◌}
 use mathlib.Core.Logic.{◌⊎◌, inl, inr, ◌≢◌}
 use mathlib.Core.Bool.{Bool, true, false, cond}
 use mathlib.Core.List.{List}
-use mathlib.Core.Option.{Option, some, none}
+use Rattle.std.specs.Prelude.{Option, Some, None, Ok, Err, slice_get}
 use Prim.Native.Nat.{ℕ, ◌+◌, ◌≤◌, ◌<◌}
 use native.Mathlib.Omega.{arith}
-use lib.ListN.{length, get_elem?}
+use lib.ListN.{length}
 use lib.Dec.{leb}
+use Rattle.model.specs.declared.fault.Fault.TheVariants.{OutputShort, BadKey}
 use borrow.Author.Tests.{leb-true, le-leb}
 use Rattle.model.specs.Bytes.{Bytes, same_bytes}
-use Rattle.model.specs.Opening.{Given, refuses, gives, and_then, or_refuse, number_of, is_some}
+use Rattle.model.specs.Opening.{Given, and_then, or_refuse, number_of, is_some}
 use Rattle.model.specs.Questions.{mapped}
 use Rattle.model.specs.Written.{fits}
 use Rattle.model.specs.TagList.{Tag, look_up, set_tag, remove_tag, max_tags, max_value, lower, fine_key, stored_key, encode_tags, decode_tags, keys_after, tag_count_length}
@@ -26,47 +27,47 @@ use Rattle.graph_tags.proofs.ThreeSet.{three_set}
 use Rattle.tag_edits.proofs.Outcome.{tag_list_gives, with_key_gives, with_key_accepted, judged_gives, judged_accepted, value_decoded, value_encoded, look_unstored, parts_look, parts_listed, changed_value}
 
 -- what is given is the same
-given : {x y : Option Bytes} → gives x ≡ gives y → x ≡ y
+given : {x y : Option Bytes} → Ok x ≡ Ok y → x ≡ y
 given e = cc
 
 -- ------------------------------------------------------------------ where keys and values stand
 
-got : (b key : Bytes) → value_in b key ≡ and_then (get_in b key) λ o. gives (mapped (part_in b) o)
+got : (b key : Bytes) → value_in b key ≡ and_then (get_in b key) λ o. Ok (mapped (part_in b) o)
 unfolding value_in get_in tag_list ready_key
 got b key = go (decode_tags b) refl (fine_key key)
   where
     go : (o : Option (List Tag)) → decode_tags b ≡ o → (t : Bool)
-        → and_then (or_refuse 29 o) (λ ts. and_then (cond t (gives (lower key)) (refuses 19)) λ k. gives (look_up k ts))
+        → and_then (or_refuse 29 o) (λ ts. and_then (cond t (Ok (lower key)) (Err BadKey)) λ k. Ok (look_up k ts))
         ≡ and_then
-        (and_then (or_refuse 29 o) (λ ts. and_then (cond t (gives (lower key)) (refuses 19)) λ k. gives (mapped value_part (parts_with (keys_after (length ts)) k ts))))
-        λ o. gives (mapped (part_in b) o)
-    go none d t = refl
-    go (some ts) d false = refl
-    go (some ts) d true = ap gives (sym (parts_look b (lower key) ts tag_count_length (keys_after (length ts)) (decoded_stands b ts d)))
+        (and_then (or_refuse 29 o) (λ ts. and_then (cond t (Ok (lower key)) (Err BadKey)) λ k. Ok (mapped value_part (parts_with (keys_after (length ts)) k ts))))
+        λ o. Ok (mapped (part_in b) o)
+    go None d t = refl
+    go (Some ts) d false = refl
+    go (Some ts) d true = ap Ok (sym (parts_look b (lower key) ts tag_count_length (keys_after (length ts)) (decoded_stands b ts d)))
 
-listed : (b : Bytes) (ts : List Tag) (i : ℕ) → decode_tags b ≡ some ts
-    → and_then (tag_at_in b i) (λ o. gives (mapped (tag_within b) o)) ≡ gives (get_elem? ts i)
+listed : (b : Bytes) (ts : List Tag) (i : ℕ) → decode_tags b ≡ Some ts
+    → and_then (tag_at_in b i) (λ o. Ok (mapped (tag_within b) o)) ≡ Ok (slice_get ts i)
 unfolding tag_at_in
 listed b ts i d =
-    rw (tag_list_gives b ts d) (ap gives (parts_listed b ts tag_count_length (keys_after (length ts)) i (decoded_stands b ts d)))
+    rw (tag_list_gives b ts d) (ap Ok (parts_listed b ts tag_count_length (keys_after (length ts)) i (decoded_stands b ts d)))
 
 -- ------------------------------------------------------------------ inserting
 
-few_set : (k v : Bytes) (ts : List Tag) (o : Option Bytes) → (o ≢ none) ⊎ (length ts < max_tags) → length ts ≤ max_tags
+few_set : (k v : Bytes) (ts : List Tag) (o : Option Bytes) → (o ≢ None) ⊎ (length ts < max_tags) → length ts ≤ max_tags
     → length (set_tag k v ts) ≡ cond (is_some o) (length ts) (length ts + 1) → length (set_tag k v ts) ≤ max_tags
-few_set k v ts none (inl n) l s = absurd (n refl)
-few_set k v ts none (inr h) l s = omega arith
-few_set k v ts (some w) h l s = omega arith
+few_set k v ts None (inl n) l s = absurd (n refl)
+few_set k v ts None (inr h) l s = omega arith
+few_set k v ts (Some w) h l s = omega arith
 
 -- as `insert_in` and `remove_in` go on with the list and the key
 abbrev to_insert : Bytes → List Tag → Bytes → Given (List Tag)
 to_insert value ts k = judged_tags (leb (length value) max_value) (set_tag k value ts)
 
 abbrev to_remove : ℕ → List Tag → Bytes → Given Removal
-to_remove room ts k = cond (fits (look_up k ts) room) (gives (record { value = look_up k ts; rest = remove_tag k ts })) (refuses 17)
+to_remove room ts k = cond (fits (look_up k ts) room) (Ok (record { value = look_up k ts; rest = remove_tag k ts })) (Err OutputShort)
 
-accepted : (b key value : Bytes) (ts : List Tag) → decode_tags b ≡ some ts → fine_key key ≡ true → length value ≤ max_value
-    → (look_up (lower key) ts ≢ none) ⊎ (length ts < max_tags) → number_of (insert_in b key value) ≡ 0
+accepted : (b key value : Bytes) (ts : List Tag) → decode_tags b ≡ Some ts → fine_key key ≡ true → length value ≤ max_value
+    → (look_up (lower key) ts ≢ None) ⊎ (length ts < max_tags) → number_of (insert_in b key value) ≡ 0
 unfolding insert_in
 accepted b key value ts d e short room =
     let v = decoded_valid b ts d in
@@ -78,7 +79,7 @@ accepted b key value ts d e short room =
     )
 
 inserted : (b key value j : Bytes) → number_of (insert_in b key value) ≡ 0 → fine_key j ≡ true
-    → value_in (list_with (insert_in b key value) b) j ≡ cond (same_bytes (lower j) (lower key)) (gives (some value)) (value_in b j)
+    → value_in (list_with (insert_in b key value) b) j ≡ cond (same_bytes (lower j) (lower key)) (Ok (Some value)) (value_in b j)
 unfolding insert_in
 inserted b key value j z e =
     let a = with_key_accepted b key (to_insert value) z in
@@ -93,12 +94,12 @@ inserted b key value j z e =
       value_encoded us j valid e,
       value_decoded b ts j a.decoded e,
     )
-    (changed_value (lower j) k (look_up (lower j) us) (some value) (gives (look_up (lower j) ts))
+    (changed_value (lower j) k (look_up (lower j) us) (Some value) (Ok (look_up (lower j) ts))
     (λ d. rw d (set_same k value ts))
-    (λ n. ap gives (set_other (lower j) k value ts n)))
+    (λ n. ap Ok (set_other (lower j) k value ts n)))
 
 removed : (b key : Bytes) (room : ℕ) (j : Bytes) → number_of (remove_in b key room) ≡ 0 → fine_key j ≡ true
-    → value_in (list_with (rest_given (remove_in b key room)) b) j ≡ cond (same_bytes (lower j) (lower key)) (gives none) (value_in b j)
+    → value_in (list_with (rest_given (remove_in b key room)) b) j ≡ cond (same_bytes (lower j) (lower key)) (Ok None) (value_in b j)
 unfolding remove_in
 removed b key room j z e =
     let a = with_key_accepted b key (to_remove room) z in
@@ -113,17 +114,17 @@ removed b key room j z e =
       value_encoded us j (remove_valid k ts v) e,
       value_decoded b ts j a.decoded e,
     )
-    (changed_value (lower j) k (look_up (lower j) us) none (gives (look_up (lower j) ts))
+    (changed_value (lower j) k (look_up (lower j) us) None (Ok (look_up (lower j) ts))
     (λ d. rw d (remove_same k ts v.order))
-    (λ n. ap gives (remove_other (lower j) k ts n)))
+    (λ n. ap Ok (remove_other (lower j) k ts n)))
   where
-    go : (t : Bool) (r : Removal) → number_of (cond t (gives r) (refuses 17)) ≡ 0 → t ≡ true
+    go : (t : Bool) (r : Removal) → number_of (cond t (Ok r) (Err OutputShort)) ≡ 0 → t ≡ true
     go true r z = refl
     go false r z = absurd (omega arith)
 
 -- ------------------------------------------------------------------ a block is told by what its keys give
 
-same : (b c : Bytes) (ts us : List Tag) → decode_tags b ≡ some ts → decode_tags c ≡ some us
+same : (b c : Bytes) (ts us : List Tag) → decode_tags b ≡ Some ts → decode_tags c ≡ Some us
     → ((j : Bytes) → fine_key j ≡ true → value_in b j ≡ value_in c j) → b ≡ c
 same b c ts us d e h =
     let v = decoded_valid b ts d in

@@ -4,7 +4,7 @@ use mathlib.Core.Path.{◌≡◌, refl}
 use mathlib.Core.Logic.{◌⊎◌, inl, inr, ◌≢◌}
 use mathlib.Core.Bool.{Bool, true, false, cond}
 use mathlib.Core.List.{List}
-use mathlib.Core.Option.{Option, some, none}
+use Rattle.std.specs.Prelude.{Option, Some, None}
 use Prim.Native.Nat.{◌+◌, ◌≤◌}
 use native.Mathlib.Omega.{arith}
 use lib.ListN.{length}
@@ -30,45 +30,45 @@ same_or_not j k = go (same_bytes j k) refl
 
 module _ (k : Bytes) where
   pub change_kept : (o : Option Bytes) (ts : List Tag) → Ascending compare_tags ts → Ascending compare_tags (set_or_remove k o ts)
-  change_kept none ts a = remove_kept k ts a
-  change_kept (some v) ts a = set_kept k v ts a
+  change_kept None ts a = remove_kept k ts a
+  change_kept (Some v) ts a = set_kept k v ts a
 
   pub absent_kept : (o : Option Bytes) (ts : List Tag) → Ascending compare_tags ts → Ascending compare_tags (remove_absent k o ts)
-  absent_kept none ts a = remove_kept k ts a
-  absent_kept (some v) ts a = a
+  absent_kept None ts a = remove_kept k ts a
+  absent_kept (Some v) ts a = a
 
   pub present_kept : (o : Option Bytes) (ts : List Tag) → Ascending compare_tags ts → Ascending compare_tags (set_present k o ts)
-  present_kept none ts a = a
-  present_kept (some v) ts a = set_kept k v ts a
+  present_kept None ts a = a
+  present_kept (Some v) ts a = set_kept k v ts a
 
   pub change_same : (o : Option Bytes) (ts : List Tag) → Ascending compare_tags ts → look_up k (set_or_remove k o ts) ≡ o
-  change_same none ts a = remove_same k ts a
-  change_same (some v) ts a = set_same k v ts
+  change_same None ts a = remove_same k ts a
+  change_same (Some v) ts a = set_same k v ts
 
-  pub absent_same : (o : Option Bytes) (ts : List Tag) → Ascending compare_tags ts → o ≡ none → look_up k (remove_absent k o ts) ≡ none
-  absent_same none ts a e = remove_same k ts a
-  absent_same (some v) ts a e = cc
+  pub absent_same : (o : Option Bytes) (ts : List Tag) → Ascending compare_tags ts → o ≡ None → look_up k (remove_absent k o ts) ≡ None
+  absent_same None ts a e = remove_same k ts a
+  absent_same (Some v) ts a e = cc
 
-  pub present_same : (o : Option Bytes) (ts : List Tag) → (o ≡ none → look_up k ts ≡ none) → look_up k (set_present k o ts) ≡ o
-  present_same none ts h = h refl
-  present_same (some v) ts h = set_same k v ts
+  pub present_same : (o : Option Bytes) (ts : List Tag) → (o ≡ None → look_up k ts ≡ None) → look_up k (set_present k o ts) ≡ o
+  present_same None ts h = h refl
+  present_same (Some v) ts h = set_same k v ts
 
   pub change_other : (j : Bytes) → j ≢ k → (o : Option Bytes) (ts : List Tag) → look_up j (set_or_remove k o ts) ≡ look_up j ts
-  change_other j n none ts = remove_other j k ts n
-  change_other j n (some v) ts = set_other j k v ts n
+  change_other j n None ts = remove_other j k ts n
+  change_other j n (Some v) ts = set_other j k v ts n
 
   pub absent_other : (j : Bytes) → j ≢ k → (o : Option Bytes) (ts : List Tag) → look_up j (remove_absent k o ts) ≡ look_up j ts
-  absent_other j n none ts = remove_other j k ts n
-  absent_other j n (some v) ts = refl
+  absent_other j n None ts = remove_other j k ts n
+  absent_other j n (Some v) ts = refl
 
   pub present_other : (j : Bytes) → j ≢ k → (o : Option Bytes) (ts : List Tag) → look_up j (set_present k o ts) ≡ look_up j ts
-  present_other j n none ts = refl
-  present_other j n (some v) ts = set_other j k v ts n
+  present_other j n None ts = refl
+  present_other j n (Some v) ts = set_other j k v ts n
 
   pub length_change : (o : Option Bytes) (ts : List Tag) → Ascending compare_tags ts
       → length (set_or_remove k o ts) + gone k o ts ≡ length ts + added k o ts
-  length_change none ts a = omega (arith, length_remove k ts a)
-  length_change (some v) ts a = go (is_some (look_up k ts)) (length_set k v ts a)
+  length_change None ts a = omega (arith, length_remove k ts a)
+  length_change (Some v) ts a = go (is_some (look_up k ts)) (length_set k v ts a)
     where
       go : (b : Bool) → length (set_tag k v ts) ≡ cond b (length ts) (length ts + 1) → length (set_tag k v ts) + 0 ≡ length ts + cond b 0 1
       go true e = omega arith
@@ -76,23 +76,23 @@ module _ (k : Bytes) where
 
   -- setting takes no tag away
   pub present_longer : (o : Option Bytes) (ts : List Tag) → Ascending compare_tags ts → length ts ≤ length (set_present k o ts)
-  present_longer none ts a = omega arith
-  present_longer (some v) ts a = omega (arith, length_change (some v) ts a)
+  present_longer None ts a = omega arith
+  present_longer (Some v) ts a = omega (arith, length_change (Some v) ts a)
 
   pub absent_valid : (o : Option Bytes) (ts : List Tag) → ValidTags ts → ValidTags (remove_absent k o ts)
-  absent_valid none ts h = remove_valid k ts h
-  absent_valid (some v) ts h = h
+  absent_valid None ts h = remove_valid k ts h
+  absent_valid (Some v) ts h = h
 
   pub present_valid : (o : Option Bytes) (ts : List Tag) → ValidTags ts → stored_key k ≡ true → fits o max_value ≡ true
       → length (set_present k o ts) ≤ max_tags → ValidTags (set_present k o ts)
-  present_valid none ts h stored short few = h
-  present_valid (some v) ts h stored short few = set_valid k v ts h stored (leb-true (length v) max_value short) few
+  present_valid None ts h stored short few = h
+  present_valid (Some v) ts h stored short few = set_valid k v ts h stored (leb-true (length v) max_value short) few
 
 -- what a key holds decides what is added and taken away
 pub added_same : (k : Bytes) (o : Option Bytes) (ts us : List Tag) → look_up k ts ≡ look_up k us → added k o ts ≡ added k o us
-added_same k none ts us e = refl
-added_same k (some v) ts us e = rw e
+added_same k None ts us e = refl
+added_same k (Some v) ts us e = rw e
 
 pub gone_same : (k : Bytes) (o : Option Bytes) (ts us : List Tag) → look_up k ts ≡ look_up k us → gone k o ts ≡ gone k o us
-gone_same k none ts us e = rw e
-gone_same k (some v) ts us e = refl
+gone_same k None ts us e = rw e
+gone_same k (Some v) ts us e = refl

@@ -3,16 +3,17 @@ use mathlib.Core.Path.{◌≡◌, refl, sym, ◌∙◌}
 use mathlib.Core.Logic.{◌≢◌}
 use mathlib.Core.Bool.{Bool, true, false, cond}
 use mathlib.Core.List.{List, [], ◌∷◌, Memᴰ}
-use mathlib.Core.Option.{Option, some, none}
+use Rattle.std.specs.Prelude.{Option, Some, None, Ok, Err}
 use Prim.Native.Nat.{ℕ, suc, ◌≤◌}
 use native.Mathlib.Omega.{arith}
 use lib.ListN.{length}
 use lib.Dec.{leb}
+use Rattle.model.specs.declared.fault.Fault.TheVariants.{WrongBuffer, OutputShort, BadKey, LongValue, TagsFull}
 use borrow.Author.Tests.{leb-true}
 use Rattle.model.specs.Bytes.{Bytes}
 use Rattle.model.specs.Record.{GraphName}
 use Rattle.model.specs.Layout.{decode}
-use Rattle.model.specs.Opening.{Given, refuses, gives, and_then, or_refuse, number_of, opened, has_size, record_in}
+use Rattle.model.specs.Opening.{Given, and_then, or_refuse, number_of, opened, has_size, record_in}
 use Rattle.model.specs.Written.{tags_of, fits, put_value}
 use Rattle.model.specs.TagList.{Tag, look_up, set_tag, remove_tag, set_graph_name, max_tags, max_value, lower, fine_key, tags_length, decode_tags}
 use Rattle.model.specs.TagOutcome.{Removal, tag_list, ready_key, with_key, tag_count_in, tag_at_in, get_in, contains_in, judged_tags, short_tags, insert_in, set_graph_name_in, remove_in, rest_given, list_with, output_with_removed}
@@ -33,8 +34,8 @@ Refusal ns n = Memᴰ n ns × (n ≢ 0)
 
 -- one of these refusals, or an answer of which P holds
 abbrev Yields : {A : Type 0} → List ℕ → (A → Type 0) → Given A → Type 0
-Yields ns P (refuses n) = Refusal ns n
-Yields ns P (gives a) = P a
+Yields ns P (Err n) = Refusal ns n
+Yields ns P (Ok a) = P a
 
 -- a block b changed: it has the size of a tag list, and the new tags are one
 record Done (b : Bytes) (us : List Tag) : Type 0 where
@@ -48,22 +49,22 @@ record Removed (b : Bytes) (room : ℕ) (r : Removal) : Type 0 where
 
 module _ (ns : List ℕ) where
   module _ {A : Type 0} (P : A → Type 0) where
-    list_yields : (b : Bytes) (f : List Tag → Given A) → Refusal ns 29 → ((ts : List Tag) → decode_tags b ≡ some ts → Yields ns P (f ts))
+    list_yields : (b : Bytes) (f : List Tag → Given A) → Refusal ns 29 → ((ts : List Tag) → decode_tags b ≡ Some ts → Yields ns P (f ts))
         → Yields ns P (and_then (tag_list b) f)
     unfolding tag_list
     list_yields b f r h = go (decode_tags b) refl
       where
         go : (o : Option (List Tag)) → decode_tags b ≡ o → Yields ns P (and_then (or_refuse 29 o) f)
-        go none d = r
-        go (some ts) d = h ts d
+        go None d = r
+        go (Some ts) d = h ts d
 
     key_yields : (b key : Bytes) (f : List Tag → Bytes → Given A) → Refusal ns 29 → Refusal ns 19
-        → ((ts : List Tag) → decode_tags b ≡ some ts → fine_key key ≡ true → Yields ns P (f ts (lower key))) → Yields ns P (with_key b key f)
+        → ((ts : List Tag) → decode_tags b ≡ Some ts → fine_key key ≡ true → Yields ns P (f ts (lower key))) → Yields ns P (with_key b key f)
     unfolding ready_key
     key_yields b key f r s h = list_yields b (λ ts. and_then (ready_key key) λ k. f ts k) r (λ ts d. go ts d (fine_key key) refl)
       where
-        go : (ts : List Tag) → decode_tags b ≡ some ts → (t : Bool) → fine_key key ≡ t
-            → Yields ns P (and_then (cond t (gives (lower key)) (refuses 19)) λ k. f ts k)
+        go : (ts : List Tag) → decode_tags b ≡ Some ts → (t : Bool) → fine_key key ≡ t
+            → Yields ns P (and_then (cond t (Ok (lower key)) (Err BadKey)) λ k. f ts k)
         go ts d true e = h ts d e
         go ts d false e = s
 
@@ -72,10 +73,10 @@ module _ (ns : List ℕ) where
     unfolding opened
     record_yields buffer f r s h = go (has_size buffer) (decode buffer)
       where
-        go : (t : Bool) (o : Option GraphName) → Yields ns P (and_then (cond t (or_refuse 16 o) (refuses 15)) f)
+        go : (t : Bool) (o : Option GraphName) → Yields ns P (and_then (cond t (or_refuse 16 o) (Err WrongBuffer)) f)
         go false o = r
-        go true none = s
-        go true (some g) = h g
+        go true None = s
+        go true (Some g) = h g
 
   judged_yields : (P : List Tag → Type 0) (short : Bool) (us : List Tag) → Refusal ns 20 → Refusal ns 21
       → (short ≡ true → length us ≤ max_tags → P us) → Yields ns P (judged_tags short us)
@@ -83,7 +84,7 @@ module _ (ns : List ℕ) where
   judged_yields P short us r s h = go short (leb (length us) max_tags) refl h
     where
       go : (u t : Bool) → leb (length us) max_tags ≡ t → (u ≡ true → length us ≤ max_tags → P us)
-          → Yields ns P (cond u (cond t (gives us) (refuses 21)) (refuses 20))
+          → Yields ns P (cond u (cond t (Ok us) (Err TagsFull)) (Err LongValue))
       go true true e h = h refl (leb-true (length us) max_tags e)
       go true false e h = s
       go false t e h = r
@@ -91,8 +92,8 @@ module _ (ns : List ℕ) where
   -- ------------------------------------------------------------------ questions
 
   answers : {A : Type 0} (P : A → Type 0) (a : Given A) → Yields ns P a → AnswersWith (0 ∷ ns) a
-  answers P (refuses n) y = record { number = Memᴰ.tail y.0; kept = λ m value old. refl }
-  answers P (gives x) y = record { number = Memᴰ.head refl; kept = λ m. absurd (m refl) }
+  answers P (Err n) y = record { number = Memᴰ.tail y.0; kept = λ m value old. refl }
+  answers P (Ok x) y = record { number = Memᴰ.head refl; kept = λ m. absurd (m refl) }
 
   -- ------------------------------------------------------------------ changes
 
@@ -105,24 +106,24 @@ module _ (ns : List ℕ) where
   }
     where
       same : (b : Bytes) (a : Given (List Tag)) → number_of a ≢ 0 → list_with a b ≡ b
-      same b (refuses n) m = refl
-      same b (gives us) m = absurd (m refl)
+      same b (Err n) m = refl
+      same b (Ok us) m = absurd (m refl)
 
       long : (b : Bytes) (a : Given (List Tag)) → Yields ns (Done b) a → length (list_with a b) ≡ length b
-      long b (refuses n) y = refl
-      long b (gives us) y = length_encoded us y.valid ∙ sym y.long
+      long b (Err n) y = refl
+      long b (Ok us) y = length_encoded us y.valid ∙ sym y.long
 
       wrong : (b : Bytes) → length b ≢ tags_length → (a : Given (List Tag)) → Yields ns (Done b) a → number_of a ≢ 0
-      wrong b n (refuses k) y = y.1
-      wrong b n (gives us) y = absurd (n y.long)
+      wrong b n (Err k) y = y.1
+      wrong b n (Ok us) y = absurd (n y.long)
 
   -- ------------------------------------------------------------------ removals
 
   fits_yields : (b : Bytes) (room : ℕ) (value : Option Bytes) (us : List Tag) → Refusal ns 17 → Done b us
-      → Yields ns (Removed b room) (cond (fits value room) (gives (record { value = value; rest = us })) (refuses 17))
+      → Yields ns (Removed b room) (cond (fits value room) (Ok (record { value = value; rest = us })) (Err OutputShort))
   fits_yields b room value us r d = go (fits value room) refl
     where
-      go : (t : Bool) → fits value room ≡ t → Yields ns (Removed b room) (cond t (gives (record { value = value; rest = us })) (refuses 17))
+      go : (t : Bool) → fits value room ≡ t → Yields ns (Removed b room) (cond t (Ok (record { value = value; rest = us })) (Err OutputShort))
       go true e = record { done = d; fitting = e }
       go false e = r
 
@@ -135,20 +136,20 @@ module _ (ns : List ℕ) where
   }
     where
       left : (b : Bytes) (room : ℕ) (a : Given Removal) → Yields ns (Removed b room) a → Yields ns (Done b) (rest_given a)
-      left b room (refuses n) y = y
-      left b room (gives r) y = y.done
+      left b room (Err n) y = y
+      left b room (Ok r) y = y.done
 
       same : (out : Bytes) (a : Given Removal) → number_of a ≢ 0 → output_with_removed a out ≡ out
-      same out (refuses n) m = refl
-      same out (gives r) m = absurd (m refl)
+      same out (Err n) m = refl
+      same out (Ok r) m = absurd (m refl)
 
       put_long : (out : Bytes) (value : Option Bytes) → fits value (length out) ≡ true → length (put_value value out) ≡ length out
-      put_long out none e = refl
-      put_long out (some t) e = let h = leb-true (length t) (length out) e in length_put out 0 t (omega arith)
+      put_long out None e = refl
+      put_long out (Some t) e = let h = leb-true (length t) (length out) e in length_put out 0 t (omega arith)
 
       long : (b out : Bytes) (a : Given Removal) → Yields ns (Removed b (length out)) a → length (output_with_removed a out) ≡ length out
-      long b out (refuses n) y = refl
-      long b out (gives r) y = put_long out r.value y.fitting
+      long b out (Err n) y = refl
+      long b out (Ok r) y = put_long out r.value y.fitting
 
 -- ------------------------------------------------------------------ the numbers of refusals, each found by its place
 
@@ -179,11 +180,11 @@ of_three = 15 ∷ 16 ∷ 29 ∷ 20 ∷ 21 ∷ []
 abbrev Any : {A : Type 0} → A → Type 0
 Any a = Unit {0}
 
-list_asked : {A : Type 0} (b : Bytes) (f : List Tag → A) → AnswersWith (0 ∷ of_list) (and_then (tag_list b) λ ts. gives (f ts))
-list_asked b f = answers of_list Any _ (list_yields of_list Any b (λ ts. gives (f ts)) first (λ ts d. tt))
+list_asked : {A : Type 0} (b : Bytes) (f : List Tag → A) → AnswersWith (0 ∷ of_list) (and_then (tag_list b) λ ts. Ok (f ts))
+list_asked b f = answers of_list Any _ (list_yields of_list Any b (λ ts. Ok (f ts)) first (λ ts d. tt))
 
-key_asked : {A : Type 0} (b key : Bytes) (f : List Tag → Bytes → A) → AnswersWith (0 ∷ of_key) (with_key b key λ ts k. gives (f ts k))
-key_asked b key f = answers of_key Any _ (key_yields of_key Any b key (λ ts k. gives (f ts k)) first (next first) (λ ts d e. tt))
+key_asked : {A : Type 0} (b key : Bytes) (f : List Tag → Bytes → A) → AnswersWith (0 ∷ of_key) (with_key b key λ ts k. Ok (f ts k))
+key_asked b key f = answers of_key Any _ (key_yields of_key Any b key (λ ts k. Ok (f ts k)) first (next first) (λ ts d e. tt))
 
 insert_yields : (b key value : Bytes) → Yields of_insert (Done b) (insert_in b key value)
 unfolding insert_in
@@ -202,7 +203,7 @@ unfolding remove_in
 remove_yields b key room =
     let k = lower key in
     key_yields of_remove (Removed b room) b key
-    (λ ts j. cond (fits (look_up j ts) room) (gives (record { value = look_up j ts; rest = remove_tag j ts })) (refuses 17))
+    (λ ts j. cond (fits (look_up j ts) room) (Ok (record { value = look_up j ts; rest = remove_tag j ts })) (Err OutputShort))
     first (next first) (λ ts d e.
     fits_yields of_remove b room (look_up k ts) (remove_tag k ts) (next (next first))
     (record { long = decoded_length b ts d; valid = remove_valid k ts (decoded_valid b ts d) }))

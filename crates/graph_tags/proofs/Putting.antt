@@ -2,14 +2,15 @@
 use mathlib.Core.Path.{◌≡◌, refl, sym, ap, ◌∙◌}
 use mathlib.Core.Bool.{true, false}
 use mathlib.Core.List.{List}
-use mathlib.Core.Option.{Option}
+use Rattle.std.specs.Prelude.{Option, Ok, Err}
 use Prim.Native.Nat.{◌+◌, ◌≤◌}
 use native.Mathlib.Omega.{arith}
 use lib.ListN.{length, take, length-take}
 use lib.Dec.{ltb}
+use Rattle.model.specs.declared.fault.Fault.TheVariants.{TagsFull}
 use borrow.Author.Tests.{le-leb, ltb-true, ltb-false}
 use Rattle.model.specs.Bytes.{Bytes, every_byte}
-use Rattle.model.specs.Opening.{is_some, refuses, gives}
+use Rattle.model.specs.Opening.{is_some}
 use Rattle.model.specs.Written.{fits}
 use Rattle.model.specs.TagList.{max_tags, max_value, stored_key, encode_tags, shown_tags, decode_tags}
 use Rattle.model.specs.TagList as list
@@ -157,7 +158,7 @@ module _ (ts : List list.Tag) (name subgraph translation : Tag) (name_value subg
 
   -- too many in the end, or not
   pub three_full : ltb (max_tags + three_gone name subgraph translation ts) (length ts + three_added name subgraph translation ts) ≡ true
-      → judged_tags true (changed name_key subgraph_key translation_key n s t ts) ≡ refuses 21
+      → judged_tags true (changed name_key subgraph_key translation_key n s t ts) ≡ Err TagsFull
   three_full e =
       let l = ltb-true (max_tags + three_gone name subgraph translation ts) (length ts + three_added name subgraph translation ts) e in
       judged_many true (changed name_key subgraph_key translation_key n s t ts) refl (omega (arith, counted))
@@ -171,7 +172,7 @@ module _ (ts : List list.Tag) (name subgraph translation : Tag) (name_value subg
 
   pub three_judged : length (filled name_key subgraph_key translation_key n s t (three_removed name subgraph translation ts)) ≤ max_tags
       → judged_tags true (changed name_key subgraph_key translation_key n s t ts)
-      ≡ gives (filled name_key subgraph_key translation_key n s t (three_removed name subgraph translation ts))
+      ≡ Ok (filled name_key subgraph_key translation_key n s t (three_removed name subgraph translation ts))
   three_judged few = rw three_same (judged_gives true (filled name_key subgraph_key translation_key n s t (three_removed name subgraph translation ts)) refl few)
 
 pub cleared_valid : (name subgraph translation : Tag) (ts : List list.Tag) → ValidTags ts → ValidTags (three_removed name subgraph translation ts)

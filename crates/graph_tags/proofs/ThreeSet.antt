@@ -3,11 +3,11 @@ use mathlib.Core.Path.{◌≡◌, ap}
 use mathlib.Core.Logic.{◌≢◌}
 use mathlib.Core.Bool.{true, cond}
 use mathlib.Core.List.{List}
-use mathlib.Core.Option.{some}
+use Rattle.std.specs.Prelude.{Some, Ok}
 use Rattle.model.specs.Bytes.{Bytes, same_bytes}
 use Rattle.model.specs.Record.{GraphName}
 use Rattle.model.specs.Layout.{decode}
-use Rattle.model.specs.Opening.{Given, gives, and_then, number_of, record_in}
+use Rattle.model.specs.Opening.{Given, and_then, number_of, record_in}
 use Rattle.model.specs.Written.{tags_of}
 use Rattle.model.specs.Statements.{Ascending}
 use Rattle.model.specs.TagList.{Tag, compare_tags, look_up, set_graph_name, lower, fine_key}
@@ -47,15 +47,15 @@ module _ (g : GraphName) (ts : List Tag) (asc : Ascending compare_tags ts) where
 abbrev to_set_three : GraphName → List Tag → Given (List Tag)
 to_set_three g ts = judged_tags (short_tags (tags_of g)) (set_graph_name g ts)
 
-three_in : (b buffer : Bytes) (g : GraphName) → decode buffer ≡ some g → set_graph_name_in b buffer ≡ and_then (tag_list b) (to_set_three g)
+three_in : (b buffer : Bytes) (g : GraphName) → decode buffer ≡ Some g → set_graph_name_in b buffer ≡ and_then (tag_list b) (to_set_three g)
 unfolding set_graph_name_in
 three_in b buffer g d = rw (reads_opened (record_in buffer) g (decoded_reads buffer g d))
 
-pub three_set : (b buffer : Bytes) (g : GraphName) (j : Bytes) → number_of (set_graph_name_in b buffer) ≡ 0 → decode buffer ≡ some g → fine_key j ≡ true
+pub three_set : (b buffer : Bytes) (g : GraphName) (j : Bytes) → number_of (set_graph_name_in b buffer) ≡ 0 → decode buffer ≡ Some g → fine_key j ≡ true
     → value_in (list_with (set_graph_name_in b buffer) b) j
-    ≡ cond (same_bytes (lower j) name_key) (gives (tags_of g).name)
-    (cond (same_bytes (lower j) subgraph_key) (gives (tags_of g).subgraph)
-    (cond (same_bytes (lower j) translation_key) (gives (tags_of g).translation) (value_in b j)))
+    ≡ cond (same_bytes (lower j) name_key) (Ok (tags_of g).name)
+    (cond (same_bytes (lower j) subgraph_key) (Ok (tags_of g).subgraph)
+    (cond (same_bytes (lower j) translation_key) (Ok (tags_of g).translation) (value_in b j)))
 three_set b buffer g j z d e =
     let a = list_accepted b (to_set_three g) (rw (three_in b buffer g d) at z) in
     let ts = a.0 in
@@ -73,4 +73,4 @@ three_set b buffer g j z d e =
     (changed_value (lower j) name_key (look_up (lower j) us) (tags_of g).name _ (λ s. rw s (name_looks g ts asc)) (λ n.
     changed_value (lower j) subgraph_key (look_up (lower j) us) (tags_of g).subgraph _ (λ s. rw s (subgraph_looks g ts asc)) (λ m.
     changed_value (lower j) translation_key (look_up (lower j) us) (tags_of g).translation _ (λ s. rw s (translation_looks g ts asc)) (λ l.
-    ap gives (further_looks g ts asc (lower j) n m l)))))
+    ap Ok (further_looks g ts asc (lower j) n m l)))))

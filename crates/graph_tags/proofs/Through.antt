@@ -1,15 +1,16 @@
 -- A record's tags put in by way of three outputs: what the answer of their writer says of the record, and what the change comes to.
 use mathlib.Core.Path.{◌≡◌, refl, ap, ◌∙◌}
 use mathlib.Core.Bool.{Bool, true, false, cond}
-use mathlib.Core.Option.{Option, some, none}
+use Rattle.std.specs.Prelude.{Option, Some, None, Ok, Err}
 use Prim.Native.Nat.{ℕ, ◌+◌}
 use native.Mathlib.Omega.{arith}
 use lib.ListN.{length, drop}
 use lib.Seq.{take_at}
+use Rattle.model.specs.declared.fault.Fault.TheVariants.{WrongBuffer, OutputShort, LongValue, NotATagList}
 use Rattle.model.specs.Bytes.{Bytes, put}
 use Rattle.model.specs.Record.{GraphName}
 use Rattle.model.specs.Layout.{decode}
-use Rattle.model.specs.Opening.{Given, refuses, gives, and_then, or_refuse, is_some, opened, record_in, has_size}
+use Rattle.model.specs.Opening.{Given, and_then, or_refuse, is_some, opened, record_in, has_size}
 use Rattle.model.specs.Questions.{asked, mapped}
 use Rattle.model.specs.Written.{Tags, TagSizes, tags_of, all_within, tag_sizes, tags_written, put_value}
 use Rattle.model.specs.TagList.{max_value, set_graph_name, shown_tags, decode_tags}
@@ -28,17 +29,17 @@ abbrev pub written : Bytes → Given Tags
 written buffer = tags_written buffer max_value max_value max_value
 
 -- opening a record gives no 17
-not_17 : (buffer : Bytes) → opened (record_in buffer) ≡ refuses 17 → ⊥
+not_17 : (buffer : Bytes) → opened (record_in buffer) ≡ Err OutputShort → ⊥
 unfolding opened
 not_17 buffer e = go (has_size buffer) (decode buffer) e
   where
-    go : (t : Bool) (o : Option GraphName) → cond t (or_refuse 16 o) (refuses 15) ≡ refuses 17 → ⊥
-    go true none e = let z : ◌≡◌ {A = ℕ} 16 17 = cc in omega arith
-    go true (some g) e = let z : ◌≡◌ {A = ℕ} 0 1 = cc in omega arith
+    go : (t : Bool) (o : Option GraphName) → cond t (or_refuse 16 o) (Err WrongBuffer) ≡ Err OutputShort → ⊥
+    go true None e = let z : ◌≡◌ {A = ℕ} 16 17 = cc in omega arith
+    go true (Some g) e = let z : ◌≡◌ {A = ℕ} 0 1 = cc in omega arith
     go false o e = let z : ◌≡◌ {A = ℕ} 15 17 = cc in omega arith
 
 -- the writer's answer by what the record opens to
-written_by : (buffer : Bytes) → written buffer ≡ all_within max_value max_value max_value (and_then (opened (record_in buffer)) λ g. gives (tags_of g))
+written_by : (buffer : Bytes) → written buffer ≡ all_within max_value max_value max_value (and_then (opened (record_in buffer)) λ g. Ok (tags_of g))
 unfolding tags_written asked
 written_by buffer = refl
 
@@ -50,72 +51,72 @@ set_by b buffer = refl
 
 module _ (b buffer : Bytes) where
   -- a record that is refused
-  pub through_refused : (k : ℕ) → refuses k ≡ tag_sizes (written buffer) → (k ≡ 17 → ⊥) → set_graph_name_in b buffer ≡ refuses k
+  pub through_refused : (k : ℕ) → Err k ≡ tag_sizes (written buffer) → (k ≡ 17 → ⊥) → set_graph_name_in b buffer ≡ Err k
   through_refused k e n = set_by b buffer ∙ go (opened (record_in buffer)) (rw written_by at e)
     where
-      short : (g : GraphName) (t : Bool) → ◌≡◌ {A = Given TagSizes} (refuses k) (tag_sizes (cond t (gives (tags_of g)) (refuses 17))) → ⊥
+      short : (g : GraphName) (t : Bool) → ◌≡◌ {A = Given TagSizes} (Err k) (tag_sizes (cond t (Ok (tags_of g)) (Err OutputShort))) → ⊥
       short g true e = let z : ◌≡◌ {A = ℕ} 0 1 = cc in omega arith
       short g false e = n (cc)
 
-      go : (o : Given GraphName) → refuses k ≡ tag_sizes (all_within max_value max_value max_value (and_then o λ g. gives (tags_of g)))
-          → (and_then o λ g. and_then (tag_list b) λ ts. judged_tags (short_tags (tags_of g)) (set_graph_name g ts)) ≡ refuses k
-      go (refuses j) e = cc
-      go (gives g) e = absurd (short g (short_tags (tags_of g)) e)
+      go : (o : Given GraphName) → Err k ≡ tag_sizes (all_within max_value max_value max_value (and_then o λ g. Ok (tags_of g)))
+          → (and_then o λ g. and_then (tag_list b) λ ts. judged_tags (short_tags (tags_of g)) (set_graph_name g ts)) ≡ Err k
+      go (Err j) e = cc
+      go (Ok g) e = absurd (short g (short_tags (tags_of g)) e)
 
   -- a record one of whose tags is long
-  long_record : refuses 17 ≡ tag_sizes (written buffer) → (g : GraphName) × (opened (record_in buffer) ≡ gives g) × (short_tags (tags_of g) ≡ false)
+  long_record : Err OutputShort ≡ tag_sizes (written buffer) → (g : GraphName) × (opened (record_in buffer) ≡ Ok g) × (short_tags (tags_of g) ≡ false)
   long_record e = go (opened (record_in buffer)) refl (rw written_by at e)
     where
-      short : (g : GraphName) (t : Bool) → ◌≡◌ {A = Given TagSizes} (refuses 17) (tag_sizes (cond t (gives (tags_of g)) (refuses 17))) → t ≡ false
+      short : (g : GraphName) (t : Bool) → ◌≡◌ {A = Given TagSizes} (Err OutputShort) (tag_sizes (cond t (Ok (tags_of g)) (Err OutputShort))) → t ≡ false
       short g true e = cc
       short g false e = refl
 
-      go : (o : Given GraphName) → opened (record_in buffer) ≡ o → refuses 17 ≡ tag_sizes (all_within max_value max_value max_value (and_then o λ g. gives (tags_of g)))
-          → (g : GraphName) × (opened (record_in buffer) ≡ gives g) × (short_tags (tags_of g) ≡ false)
-      go (refuses j) q e = absurd (not_17 buffer (q ∙ cc))
-      go (gives g) q e = (g, q, short g (short_tags (tags_of g)) e)
+      go : (o : Given GraphName) → opened (record_in buffer) ≡ o → Err OutputShort ≡ tag_sizes (all_within max_value max_value max_value (and_then o λ g. Ok (tags_of g)))
+          → (g : GraphName) × (opened (record_in buffer) ≡ Ok g) × (short_tags (tags_of g) ≡ false)
+      go (Err j) q e = absurd (not_17 buffer (q ∙ cc))
+      go (Ok g) q e = (g, q, short g (short_tags (tags_of g)) e)
 
-  pub through_long_unlisted : refuses 17 ≡ tag_sizes (written buffer) → is_some (decode_tags b) ≡ false → set_graph_name_in b buffer ≡ refuses 29
+  pub through_long_unlisted : Err OutputShort ≡ tag_sizes (written buffer) → is_some (decode_tags b) ≡ false → set_graph_name_in b buffer ≡ Err NotATagList
   through_long_unlisted e d = let (g, q, s) = long_record e in set_by b buffer ∙ rw (q, list_refused b d)
 
-  pub through_long : refuses 17 ≡ tag_sizes (written buffer) → is_some (decode_tags b) ≡ true → set_graph_name_in b buffer ≡ refuses 20
+  pub through_long : Err OutputShort ≡ tag_sizes (written buffer) → is_some (decode_tags b) ≡ true → set_graph_name_in b buffer ≡ Err LongValue
   through_long e d =
       let (g, q, s) = long_record e in
       set_by b buffer ∙ rw (q, list_given b d) (judged_long (short_tags (tags_of g)) (set_graph_name g (shown_tags b)) s)
 
   -- a record whose tags were written
-  module _ (sizes : TagSizes) (e : gives sizes ≡ tag_sizes (written buffer)) where
+  module _ (sizes : TagSizes) (e : Ok sizes ≡ tag_sizes (written buffer)) where
     pub record Wrote : Type 0 where
       pub graph : GraphName
-      pub opens : opened (record_in buffer) ≡ gives graph
+      pub opens : opened (record_in buffer) ≡ Ok graph
       pub short : short_tags (tags_of graph) ≡ true
-      pub gives_tags : written buffer ≡ gives (tags_of graph)
+      pub gives_tags : written buffer ≡ Ok (tags_of graph)
 
     pub wrote : Wrote
     wrote = go (opened (record_in buffer)) refl (rw written_by at e)
       where
-        short : (g : GraphName) (t : Bool) → ◌≡◌ {A = Given TagSizes} (gives sizes) (tag_sizes (cond t (gives (tags_of g)) (refuses 17))) → t ≡ true
+        short : (g : GraphName) (t : Bool) → ◌≡◌ {A = Given TagSizes} (Ok sizes) (tag_sizes (cond t (Ok (tags_of g)) (Err OutputShort))) → t ≡ true
         short g true e = refl
         short g false e = let z : ◌≡◌ {A = ℕ} 0 1 = cc in absurd (omega arith)
 
-        go : (o : Given GraphName) → opened (record_in buffer) ≡ o → gives sizes ≡ tag_sizes (all_within max_value max_value max_value (and_then o λ g. gives (tags_of g))) → Wrote
-        go (refuses j) q e = let z : ◌≡◌ {A = ℕ} 0 1 = cc in absurd (omega arith)
-        go (gives g) q e =
+        go : (o : Given GraphName) → opened (record_in buffer) ≡ o → Ok sizes ≡ tag_sizes (all_within max_value max_value max_value (and_then o λ g. Ok (tags_of g))) → Wrote
+        go (Err j) q e = let z : ◌≡◌ {A = ℕ} 0 1 = cc in absurd (omega arith)
+        go (Ok g) q e =
             let s = short g (short_tags (tags_of g)) e in
             record { graph = g; opens = q; short = s; gives_tags = written_by buffer ∙ rw (q, s) }
 
-    pub through_unlisted : is_some (decode_tags b) ≡ false → set_graph_name_in b buffer ≡ refuses 29
+    pub through_unlisted : is_some (decode_tags b) ≡ false → set_graph_name_in b buffer ≡ Err NotATagList
     through_unlisted d = set_by b buffer ∙ rw (wrote.opens, list_refused b d)
 
     -- each size is that of the record's tag
     pub name_size : sizes.name ≡ mapped length (tags_of wrote.graph).name
-    name_size = let z : gives sizes ≡ tag_sizes (gives (tags_of wrote.graph)) = e ∙ ap tag_sizes wrote.gives_tags in cc
+    name_size = let z : Ok sizes ≡ tag_sizes (Ok (tags_of wrote.graph)) = e ∙ ap tag_sizes wrote.gives_tags in cc
 
     pub subgraph_size : sizes.subgraph ≡ mapped length (tags_of wrote.graph).subgraph
-    subgraph_size = let z : gives sizes ≡ tag_sizes (gives (tags_of wrote.graph)) = e ∙ ap tag_sizes wrote.gives_tags in cc
+    subgraph_size = let z : Ok sizes ≡ tag_sizes (Ok (tags_of wrote.graph)) = e ∙ ap tag_sizes wrote.gives_tags in cc
 
     pub translation_size : sizes.translation ≡ mapped length (tags_of wrote.graph).translation
-    translation_size = let z : gives sizes ≡ tag_sizes (gives (tags_of wrote.graph)) = e ∙ ap tag_sizes wrote.gives_tags in cc
+    translation_size = let z : Ok sizes ≡ tag_sizes (Ok (tags_of wrote.graph)) = e ∙ ap tag_sizes wrote.gives_tags in cc
 
     -- the change by the three values
     pub through : (n s t : Option Bytes) → n ≡ (tags_of wrote.graph).name → s ≡ (tags_of wrote.graph).subgraph → t ≡ (tags_of wrote.graph).translation
@@ -126,10 +127,10 @@ module _ (b buffer : Bytes) where
 -- the value that a writer left at the front of an output
 pub value_written : (tag : Tag) (v : Option Bytes) (out out' : Bytes) → tag_size tag ≡ mapped length v → out' ≡ put_value v out → value_at tag out' ≡ v
 unfolding put
-value_written Absent none out out' e o = refl
-value_written Absent (some t) out out' e o = cc
-value_written (Size n) none out out' e o = cc
-value_written (Size n) (some t) out out' e o =
+value_written Absent None out out' e o = refl
+value_written Absent (Some t) out out' e o = cc
+value_written (Size n) None out out' e o = cc
+value_written (Size n) (Some t) out out' e o =
     let m : n ≡ length t = cc in
     rw (o, m, take_at t (drop (0 + length t) out) (length t) refl)
 

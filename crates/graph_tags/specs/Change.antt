@@ -1,27 +1,26 @@
 -- One tag set where a value is present and removed where it is absent, and three at once: one after the other, or the absent ones first.
-use Rattle.std.specs.Prelude.{cond, List, ℕ}
-use Rattle.std.proofs.Math.Option.{Option, some, none}
+use Rattle.std.specs.Prelude.{cond, List, ℕ, Option, Some, None}
 use Rattle.model.specs.Text.{text}
 use Rattle.model.specs.Bytes.{Bytes}
 use Rattle.model.specs.Opening.{is_some}
 use Rattle.model.specs.TagList.{Tag, look_up, set_tag, remove_tag, set_or_remove}
 
 abbrev pub remove_absent : Bytes → Option Bytes → List Tag → List Tag
-remove_absent k none ts = remove_tag k ts
-remove_absent k (some v) ts = ts
+remove_absent k None ts = remove_tag k ts
+remove_absent k (Some v) ts = ts
 
 abbrev pub set_present : Bytes → Option Bytes → List Tag → List Tag
-set_present k none ts = ts
-set_present k (some v) ts = set_tag k v ts
+set_present k None ts = ts
+set_present k (Some v) ts = set_tag k v ts
 
 -- how many tags one change adds, and how many it takes away
 abbrev pub added : Bytes → Option Bytes → List Tag → ℕ
-added k none ts = 0
-added k (some v) ts = cond (is_some (look_up k ts)) 0 1
+added k None ts = 0
+added k (Some v) ts = cond (is_some (look_up k ts)) 0 1
 
 abbrev pub gone : Bytes → Option Bytes → List Tag → ℕ
-gone k none ts = cond (is_some (look_up k ts)) 1 0
-gone k (some v) ts = 0
+gone k None ts = cond (is_some (look_up k ts)) 1 0
+gone k (Some v) ts = 0
 
 -- one after the other, and the absent ones first
 abbrev pub changed : (a b c : Bytes) (n s t : Option Bytes) → List Tag → List Tag

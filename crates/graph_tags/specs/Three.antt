@@ -1,6 +1,5 @@
 -- A record's three tags as they were written to outputs: what is added and removed by them.
-use Rattle.std.specs.Prelude.{cond, List, ℕ, ◌+◌, take}
-use Rattle.std.proofs.Math.Option.{Option, some, none}
+use Rattle.std.specs.Prelude.{cond, List, ℕ, ◌+◌, take, Option, Some, None}
 use Rattle.model.specs.Bytes.{Bytes}
 use Rattle.model.specs.Opening.{is_some}
 use Rattle.model.specs.TagList.{look_up, remove_tag}
@@ -11,8 +10,8 @@ use Rattle.graph_tags.specs.Change.{name_key, subgraph_key, translation_key}
 
 -- a tag's value, at the front of its output
 abbrev pub value_at : Tag → Bytes → Option Bytes
-value_at Absent out = none
-value_at (Size n) out = some (take n out)
+value_at Absent out = None
+value_at (Size n) out = Some (take n out)
 
 -- how many tags a tag adds, and how many go by it
 abbrev pub added_by : Tag → Bytes → List list.Tag → ℕ

@@ -2,7 +2,7 @@
 use mathlib.Core.Path.{◌≡◌, refl, sym, ap, ◌∙◌}
 use mathlib.Core.Bool.{Bool, true, false, cond, ◌||◌}
 use mathlib.Core.List.{List}
-use mathlib.Core.Option.{Option, some, none}
+use Rattle.std.specs.Prelude.{Option, Some, None}
 use mathlib.Core.Logic.{inr}
 use Prim.Native.Nat.{ℕ, zero, suc, ◌+◌, ◌-◌, ◌≤◌, ◌<◌}
 use native.Mathlib.Omega.{arith}
@@ -41,10 +41,10 @@ use Rattle.intake.specs.State.{own_of, graph_now, fault_with, state_taken, name_
 -- ------------------------------------------------------------------ what is judged
 
 -- the names of the tables with an own name are those of the graph name
-now_names : (t : Tables) → Good none t → (o : Option Bytes) → names (owned o (graph_in t)) ≡ names_and o (table_names t)
+now_names : (t : Tables) → Good None t → (o : Option Bytes) → names (owned o (graph_in t)) ≡ names_and o (table_names t)
 now_names t good o = names_owned o (graph_in t) ∙ ap (names_and o) good.used
 
-pub own_some : (own : Bytes) (n : ℕ) → (n ≡ 0 → ⊥) → own_of own n ≡ some (take (n - 1) own)
+pub own_some : (own : Bytes) (n : ℕ) → (n ≡ 0 → ⊥) → own_of own n ≡ Some (take (n - 1) own)
 own_some own zero h = absurd (h refl)
 own_some own (suc k) h = let e : suc k - 1 ≡ k = omega arith in rw e
 
@@ -66,9 +66,9 @@ module _ (refs subs trans : List ℕ) (pool own : Bytes) (s : State) (h : Held (
 
 -- ------------------------------------------------------------------ an own name
 
-own_kept : (own x : Bytes) → own_of (put own 0 x) (length x + 1) ≡ some x
+own_kept : (own x : Bytes) → own_of (put own 0 x) (length x + 1) ≡ Some x
 unfolding put
-own_kept own x = rw (add-one (length x)) (ap some (take-append_seam x (drop (0 + length x) own)))
+own_kept own x = rw (add-one (length x)) (ap Some (take-append_seam x (drop (0 + length x) own)))
 
 -- copied into its buffer, the name is the own name
 pub name_taken_lem : (ns : List Bytes) (sizes : Sizes) (own own' x : Bytes) (size : ℕ) → size ≡ 0 + length x → own' ≡ put own 0 x → length x ≤ max_name_bytes
@@ -82,8 +82,8 @@ judged_long g e = rw e
 -- an own name makes the names no fewer
 with_more : (o : Option Bytes) (ns : List Bytes) → Ascending compare_bytes ns
     → (length ns ≤ length (names_and o ns)) × (length (bodies ns) ≤ length (bodies (names_and o ns)))
-with_more none ns a = omega arith
-with_more (some x) ns a =
+with_more None ns a = omega arith
+with_more (Some x) ns a =
     let c = rw (total_count ns, total_count (insert compare_bytes x ns)) at (more (λ y. 1)) in
     let b = rw (total_bodies ns, total_bodies (insert compare_bytes x ns)) at (more length) in
     (c, b)
@@ -112,11 +112,11 @@ module _ {refs subs trans : List ℕ} {pool own : Bytes} {sizes : Sizes} {n : �
     where
       go : (b : Bool) → ltb max_name_bytes (length x) ≡ b → TakenAs (tables refs subs trans pool) own' r (judged (with_name x before))
       go true l =
-          let m : any_long (names (with_name x before)) ≡ true = ap any_long (names_owned (some x) before) ∙ any_insert x (names (owned none before)) ∙ rw l in
+          let m : any_long (names (with_name x before)) ≡ true = ap any_long (names_owned (Some x) before) ∙ any_insert x (names (owned None before)) ∙ rw l in
           rw (e, l, judged_long (with_name x before) m) (record { same = refl; fitting = tt })
       go false l =
           let s = ltb-false max_name_bytes (length x) l in
-          let k : own_of own' (length x + 1) ≡ some x = rw (d s) (own_kept own x) in
+          let k : own_of own' (length x + 1) ≡ Some x = rw (d s) (own_kept own x) in
           state_taken_lem refs subs trans pool own' (record { sizes = sizes; own = length x + 1 })
           (record {
             good = h.held.good;
@@ -186,7 +186,7 @@ module _ {refs subs trans : List ℕ} {pool own : Bytes} {sizes : Sizes} {n : �
       pair_progress a b c d r e =
           state_taken_lem refs' subs' trans' pool' own (record { sizes = sizes'; own = n })
           (record {
-            good = good_put none k (tables refs subs trans pool sizes) (tables refs' subs' trans' pool' sizes') from to h.held.good p;
+            good = good_put None k (tables refs subs trans pool sizes) (tables refs' subs' trans' pool' sizes') from to h.held.good p;
             short = h.held.short;
             lengths = record {
               refs = a ∙ h.held.lengths.refs;

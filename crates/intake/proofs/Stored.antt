@@ -1,7 +1,7 @@
 -- The tables at the end of a reading, with the own name put in, are those of the graph name so far.
 use mathlib.Core.Path.{◌≡◌, sym, ap, ◌∙◌}
 use mathlib.Core.List.{List}
-use mathlib.Core.Option.{some}
+use Rattle.std.specs.Prelude.{Some}
 use Prim.Native.Nat.{ℕ, ◌+◌, ◌-◌, ◌≤◌}
 use native.Mathlib.Omega.{arith}
 use lib.ListN.{length, take, drop, length-take}
@@ -39,7 +39,7 @@ module _ {refs subs trans : List ℕ} {pool own : Bytes} {sizes : Sizes} {n : �
           room = omega (arith, u, name_size, h.held.lengths.pool);
         }
 
-    graph_named : graph_now t own n ≡ owned (some x) (graph_in t)
+    graph_named : graph_now t own n ≡ owned (Some x) (graph_in t)
     graph_named = rw (own_some own n m, s)
 
     -- with the own name they are the tables u, and it stands at p

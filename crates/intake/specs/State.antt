@@ -1,6 +1,5 @@
 -- The state of a reading: the working tables with the own name so far, which is kept apart, and the graph name that they come to.
-use Rattle.std.specs.Prelude.{◌≡◌, cond, List, ℕ, zero, suc, ◌+◌, ◌*◌, ◌≤◌, length, take, eqb, ltb}
-use Rattle.std.proofs.Math.Option.{Option, some, none}
+use Rattle.std.specs.Prelude.{◌≡◌, cond, List, ℕ, zero, suc, ◌+◌, ◌*◌, ◌≤◌, length, take, eqb, ltb, Option, Some, None}
 use Rattle.model.specs.Bytes.{Bytes}
 use Rattle.model.specs.Record.{GraphName, judge, max_name_bytes, max_names, max_pairs, max_bodies_bytes}
 use Rattle.model.specs.Reading.{Taken, took, wrong}
@@ -13,8 +12,8 @@ use Rattle.intake.specs.declared.taking.FieldTaken.TheVariants.{Took, Wrong}
 
 -- the own name by its number, which is its length and one more, or 0 for none
 abbrev pub own_of : Bytes → ℕ → Option Bytes
-own_of own zero = none
-own_of own (suc k) = some (take k own)
+own_of own zero = None
+own_of own (suc k) = Some (take k own)
 
 -- the graph name so far
 abbrev pub graph_now : Tables → Bytes → ℕ → GraphName
@@ -42,11 +41,11 @@ state_taken number state = cond (eqb number 0) (Took state) (Wrong number)
 
 -- an own name taken
 abbrev pub name_taken : List Bytes → Sizes → Bytes → FieldTaken
-name_taken ns sizes x = cond (ltb max_name_bytes (length x)) (Wrong 11) (state_taken (fault_with (some x) ns sizes) (record { sizes = sizes; own = length x + 1 }))
+name_taken ns sizes x = cond (ltb max_name_bytes (length x)) (Wrong 11) (state_taken (fault_with (Some x) ns sizes) (record { sizes = sizes; own = length x + 1 }))
 
 -- the tables are good, and the own name is within its buffer
 pub record Held (t : Tables) (own : Bytes) (n : ℕ) : Type 0 where
-  pub good : Good none t
+  pub good : Good None t
   pub short : n ≤ 257
   pub lengths : Lengths t.refs t.subs t.trans t.pool own
 

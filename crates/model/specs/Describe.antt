@@ -1,6 +1,5 @@
 -- The description of how two graphs are related, as the Rust writes it.
-use Rattle.std.specs.Prelude.{Bool, false, cond, ◌||◌, List, [], ◌∷◌, ◌++◌, ℕ, ◌+◌, length}
-use Rattle.std.proofs.Math.Option.{Option, some, none}
+use Rattle.std.specs.Prelude.{Bool, false, cond, ◌||◌, List, [], ◌∷◌, ◌++◌, ℕ, ◌+◌, length, Option, Some, None}
 use Rattle.model.specs.Text.{text}
 use Rattle.model.specs.Bytes.{Bytes, is_empty}
 use Rattle.model.specs.Record.{GraphName}
@@ -52,8 +51,8 @@ describe_path start ls from_desc to_desc =
     name_is_for 1 from_desc ++ step_lines 1 ls ++ name_is_for (length ls + 1) to_desc ++ text "With graph names:\n" ++ graph_lines 1 ls start
 
 abbrev pub or_no_name : Option Bytes → Bytes
-or_no_name none = text "(no name)"
-or_no_name (some n) = n
+or_no_name None = text "(no name)"
+or_no_name (Some n) = n
 
 -- with no path either way the exchanged order remains
 abbrev pub describe_none : Option Bytes → Option Bytes → Bytes → Bytes → Bytes
@@ -61,8 +60,8 @@ describe_none from to from_desc to_desc =
     name_is_for 1 from_desc ++ name_is_for 2 to_desc ++ text "With graph names:\n" ++ graph_line 1 (or_no_name from) ++ graph_line 2 (or_no_name to)
 
 abbrev pub described : Option Bytes → Bytes → Bytes → Option (List Step) → Bytes → Bytes
-described a from_desc to_desc none otherwise = otherwise
-described a from_desc to_desc (some ss) otherwise = describe_path (or_no_name a) (after_last_empty (steps_from (or_no_name a) ss)) from_desc to_desc
+described a from_desc to_desc None otherwise = otherwise
+described a from_desc to_desc (Some ss) otherwise = describe_path (or_no_name a) (after_last_empty (steps_from (or_no_name a) ss)) from_desc to_desc
 
 unfoldable pub describe_relationship : GraphName → GraphName → Bytes → Bytes → Bytes
 describe_relationship g h self_desc other_desc =

@@ -1,6 +1,5 @@
 -- The record's bytes (docs/FORMAT.md, "Records"): its sizes and offsets, a meaning as bytes, and bytes as a meaning.
-use Rattle.std.specs.Prelude.{◌≡◌, refl, cond, ◌&&◌, List, [], ◌∷◌, ◌++◌, ℕ, zero, suc, ◌+◌, ◌-◌, ◌*◌, length, take, drop, replicate}
-use Rattle.std.proofs.Math.Option.{Option, some, none}
+use Rattle.std.specs.Prelude.{◌≡◌, refl, cond, ◌&&◌, List, [], ◌∷◌, ◌++◌, ℕ, zero, suc, ◌+◌, ◌-◌, ◌*◌, length, take, drop, replicate, Option, Some, None}
 use Rattle.model.specs.declared.Kind.{Kind}
 use Rattle.model.specs.declared.Kind.TheVariants.{Subgraph, Translation}
 use Rattle.model.specs.Bytes.{Bytes, same_bytes}
@@ -54,8 +53,8 @@ pair_places ns [] = []
 pair_places ns (p ∷ ps) = le16 (place_of p.from ns) ++ le16 (place_of p.to ns) ++ pair_places ns ps
 
 abbrev pub own_place : List Bytes → Option Bytes → ℕ
-own_place ns none = 0
-own_place ns (some n) = suc (place_of n ns)
+own_place ns None = 0
+own_place ns (Some n) = suc (place_of n ns)
 
 -- the record without its trailing zeros
 unfoldable pub contents : GraphName → Bytes
@@ -118,8 +117,8 @@ pairs_from b at zero = []
 pairs_from b at (suc k) = pair_at b at ∷ pairs_from b (at + pair_length) k
 
 abbrev pub own_at : Bytes → ℕ → Option Bytes
-own_at b zero = none
-own_at b (suc i) = some (name_at b i)
+own_at b zero = None
+own_at b (suc i) = Some (name_at b i)
 
 unfoldable pub shown : Bytes → GraphName
 shown b = record {
@@ -130,4 +129,4 @@ shown b = record {
 
 -- a buffer is a record exactly if what it shows is valid and it is the encoding of that
 unfoldable pub decode : Bytes → Option GraphName
-decode b = cond (is_valid (shown b) && same_bytes (encode (shown b)) b) (some (shown b)) none
+decode b = cond (is_valid (shown b) && same_bytes (encode (shown b)) b) (Some (shown b)) None

@@ -1,5 +1,6 @@
 -- The definitions, in the order in which one would explain them; then the laws and the examples.
 pub mod Text
+pub mod Faults
 pub mod Bytes
 pub mod Numbers
 pub mod Record

@@ -1,6 +1,5 @@
 -- Paths (document 01's chains) over the relations of two graph names taken together.
-use Rattle.std.specs.Prelude.{cond, List, [], ◌∷◌, ◌++◌, ℕ, zero, suc, ◌+◌, length}
-use Rattle.std.proofs.Math.Option.{Option, some, none}
+use Rattle.std.specs.Prelude.{cond, List, [], ◌∷◌, ◌++◌, ℕ, zero, suc, ◌+◌, length, Option, Some, None}
 use Rattle.model.specs.Bytes.{Bytes, same_bytes}
 use Rattle.model.specs.Record.{Pair, GraphName, insert_all, compare_pairs}
 use Rattle.model.specs.Numbers.{le16}
@@ -28,17 +27,17 @@ leaving r a = leaving_by Subgraph r.subgraphs a ++ leaving_by Translation r.tran
 -- the first path of exactly k steps from a to b, in the order of docs/FORMAT.md: by the first step, subgraph before translation, then
 -- the smaller next name
 unfoldable pub first_of : (Bytes → Option (List Step)) → List Step → Option (List Step)
-first_of rest [] = none
-first_of rest (s ∷ ss) = elim (rest s.next) [ some p ↦ some (s ∷ p) | none ↦ first_of rest ss ]
+first_of rest [] = None
+first_of rest (s ∷ ss) = elim (rest s.next) [ Some p ↦ Some (s ∷ p) | None ↦ first_of rest ss ]
 
 unfoldable pub first_path : Relations → ℕ → Bytes → Bytes → Option (List Step)
-first_path r zero b a = cond (same_bytes a b) (some []) none
+first_path r zero b a = cond (same_bytes a b) (Some []) None
 first_path r (suc k) b a = first_of (first_path r k b) (leaving r a)
 
 -- the first of the paths with fewest steps, among those of k to k + more steps
 unfoldable pub path_from : Relations → ℕ → ℕ → Bytes → Bytes → Option (List Step)
 path_from r k zero b a = first_path r k b a
-path_from r k (suc more) b a = elim (first_path r k b a) [ some p ↦ some p | none ↦ path_from r (suc k) more b a ]
+path_from r k (suc more) b a = elim (first_path r k b a) [ Some p ↦ Some p | None ↦ path_from r (suc k) more b a ]
 
 -- a path that leaves no name twice has at most as many steps as there are relations
 unfoldable pub best_path : Relations → Bytes → Bytes → Option (List Step)
@@ -52,9 +51,9 @@ abbrev pub all_relations : GraphName → GraphName → Relations
 all_relations g h = record { subgraphs = insert_all compare_pairs h.subgraph g.subgraph; translations = insert_all compare_pairs h.translation g.translation }
 
 abbrev pub between : Relations → Option Bytes → Option Bytes → Option (List Step)
-between r none b = none
-between r (some a) none = none
-between r (some a) (some b) = best_path r a b
+between r None b = None
+between r (Some a) None = None
+between r (Some a) (Some b) = best_path r a b
 
 unfoldable pub subgraph_path : GraphName → GraphName → Option (List Step)
 subgraph_path g h = between (subgraph_relations g h) g.name h.name

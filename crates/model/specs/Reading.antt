@@ -1,6 +1,5 @@
 -- What a reading of header lines and of tags gives.
-use Rattle.std.specs.Prelude.{Bool, cond, not, ◌&&◌, ◌||◌, List, [], ◌∷◌, ℕ, suc, ◌+◌, length, take, drop, get_or, eqb, leb}
-use Rattle.std.proofs.Math.Option.{Option, some, none}
+use Rattle.std.specs.Prelude.{Bool, cond, not, ◌&&◌, ◌||◌, List, [], ◌∷◌, ℕ, suc, ◌+◌, length, take, drop, get_or, eqb, leb, Option, Some, None}
 use Rattle.model.specs.Text.{text}
 use Rattle.model.specs.Bytes.{Bytes, same_bytes, is_empty, split}
 use Rattle.model.specs.declared.Kind.{Kind}
@@ -31,19 +30,19 @@ judged g = cond (eqb (judge g) 0) (took g) (wrong (judge g))
 
 -- exactly two parts, neither empty
 abbrev pub two_parts : List Bytes → Option Pair
-two_parts [] = none
-two_parts (a ∷ []) = none
-two_parts (a ∷ b ∷ []) = cond (is_empty a || is_empty b) none (some (record { from = a; to = b }))
-two_parts (a ∷ b ∷ c ∷ ws) = none
+two_parts [] = None
+two_parts (a ∷ []) = None
+two_parts (a ∷ b ∷ []) = cond (is_empty a || is_empty b) None (Some (record { from = a; to = b }))
+two_parts (a ∷ b ∷ c ∷ ws) = None
 
 abbrev pub or_wrong : ℕ → Option GraphName → Taken
-or_wrong number none = wrong number
-or_wrong number (some g) = judged g
+or_wrong number None = wrong number
+or_wrong number (Some g) = judged g
 
 -- g with a pair of a kind more, where there is one
 abbrev pub add_to : Kind → GraphName → Option Pair → Option GraphName
-add_to kind g none = none
-add_to kind g (some p) = some (with_pair kind p g)
+add_to kind g None = None
+add_to kind g (Some p) = Some (with_pair kind p g)
 
 abbrev pub is_typed : Bytes → Bool
 is_typed f = leb 5 (length f) && eqb (get_or f 2 0) 58 && eqb (get_or f 4 0) 58
@@ -59,9 +58,9 @@ typed_field g f =
     (took g)))))
 
 abbrev pub one_name : GraphName → List Bytes → Option GraphName
-one_name g [] = none
-one_name g (n ∷ []) = cond (is_empty n) none (some (with_name n g))
-one_name g (n ∷ m ∷ ws) = none
+one_name g [] = None
+one_name g (n ∷ []) = cond (is_empty n) None (Some (with_name n g))
+one_name g (n ∷ m ∷ ws) = None
 
 -- a line of three bytes that begins `@`, with its further fields
 unfoldable pub gaf_line : GraphName → Bytes → List Bytes → Taken
@@ -133,13 +132,13 @@ tag_relations n add start (r ∷ rs) g =
     after_taken (or_wrong n (add g (two_parts (split 44 r)))) (tag_relations n add (start + length r + 1) rs) (refuse 0 start start (length r))
 
 unfoldable pub tag_value : ℕ → (GraphName → Option Pair → Option GraphName) → Option Bytes → GraphName → Reading
-tag_value n add none g = done g
-tag_value n add (some v) g = tag_relations n add 0 (split 59 v) g
+tag_value n add None g = done g
+tag_value n add (Some v) g = tag_relations n add 0 (split 59 v) g
 
 -- the own name, which begins at 0
 unfoldable pub name_value : Option Bytes → GraphName → Reading
-name_value none g = done g
-name_value (some v) g = after_taken (judged (with_name v g)) done (refuse 0 0 0 0)
+name_value None g = done g
+name_value (Some v) g = after_taken (judged (with_name v g)) done (refuse 0 0 0 0)
 
 unfoldable pub from_tags : Option Bytes → Option Bytes → Option Bytes → Reading
 from_tags n s t =

@@ -1,22 +1,20 @@
 -- The laws that the definitions must be shown to have, each as a type.
-use Rattle.std.specs.Prelude.{◌≡◌, Bool, true, false, cond, ◌&&◌, ◌||◌, ◌⊎◌, ◌↔◌, ◌≢◌, ℕ, zero, suc, ◌+◌, ◌-◌, ◌≤◌, ◌<◌, length, take, drop, get_or, replicate, eqb, leb}
+use Rattle.std.specs.Prelude.{Result, ◌≡◌, Bool, true, false, cond, ◌&&◌, ◌||◌, ◌⊎◌, ◌↔◌, ◌≢◌, ℕ, zero, suc, ◌+◌, ◌-◌, ◌≤◌, ◌<◌, length, take, drop, get_or, replicate, eqb, leb, Option, Some, None, Ok, Err}
 use mathlib.Core.List.{List, [], ◌∷◌, Memᴰ}
-use Rattle.std.proofs.Math.Option.{Option, some, none}
 use Rattle.model.specs.Text.{text}
 use Rattle.model.specs.Bytes.{Bytes, compare_bytes, split}
-use Rattle.model.specs.declared.Order.{Order}
-use Rattle.model.specs.declared.Order.TheVariants.{Less}
+use Rattle.std.specs.declared.cmp.Ordering.{Ordering}
+use Rattle.std.specs.declared.cmp.Ordering.TheVariants.{Less}
 use Rattle.model.specs.declared.Kind.{Kind}
 use Rattle.model.specs.declared.Kind.TheVariants.{Subgraph, Translation}
-use Rattle.model.specs.declared.Strictness.{Strictness}
-use Rattle.model.specs.declared.Strictness.TheVariants.{Fine, Faulty}
+use Rattle.model.specs.declared.fault.Fault.TheVariants.{OutputShort}
 use Rattle.model.specs.Record.{Pair, GraphName, empty, compare_pairs, judge, names}
 use Rattle.model.specs.Layout.{record_length, encode, decode}
 use Rattle.model.specs.Reading.{Refusal, Reading, done, refused, add_to, quotes, typed_fields, line_fields, from_header_lines, tag_number, tag_relations, from_tags}
 use Rattle.model.specs.Writing.{to_gfa_header_lines, to_gaf_header_lines, relations_tag}
 use Rattle.model.specs.Path.{Step, path_bytes}
 use Rattle.model.specs.Outcome.{Outcome, read_into, read_tags_into, refusal_into, new_record, add_subgraph, add_translation, add_relationships, make_subgraph_of, add_translation_to}
-use Rattle.model.specs.Outcome.{Answer, refusal, not_found, found, ask_subgraph, ask_full, output_after, answer_number, answer_value}
+use Rattle.model.specs.Outcome.{Answer, ask_subgraph, ask_full, output_after, answer_number, answer_value}
 use Rattle.model.specs.Questions.{counts_in, name_in, name_at_in, pair_at_in, is_same_in}
 use Rattle.model.specs.Opening.{Given, number_of, value_or}
 use Rattle.model.specs.Written.{gfa_written, gaf_written, message_written, relationship_written, output_with, Tags, tags_written, output_with_tag}
@@ -25,7 +23,7 @@ use Rattle.model.specs.Strict.{letter, Matches, value_of, strict}
 -- ------------------------------------------------------------------ records
 
 -- strictly ascending: none twice
-unfoldable pub Ascending : {A : Type 0} → (A → A → Order) → List A → Type 0
+unfoldable pub Ascending : {A : Type 0} → (A → A → Ordering) → List A → Type 0
 Ascending cmp [] = Unit {0}
 Ascending cmp (x ∷ []) = Unit {0}
 Ascending cmp (x ∷ y ∷ ys) = (cmp x y ≡ Less) × Ascending cmp (y ∷ ys)
@@ -38,10 +36,10 @@ pub record Valid (g : GraphName) : Type 0 where
 
 -- equal meaning is equal bytes, and every record has a meaning
 abbrev pub Encoded : Type 0
-Encoded = (g : GraphName) → Valid g → decode (encode g) ≡ some g
+Encoded = (g : GraphName) → Valid g → decode (encode g) ≡ Some g
 
 abbrev pub Decoded : Type 0
-Decoded = (b : Bytes) (g : GraphName) → decode b ≡ some g → Valid g × (b ≡ encode g)
+Decoded = (b : Bytes) (g : GraphName) → decode b ≡ Some g → Valid g × (b ≡ encode g)
 
 -- ------------------------------------------------------------------ reading back
 
@@ -107,12 +105,12 @@ pub record PlacedInLines (t : Bytes) (r : Refusal) : Type 0 where
 
 -- a relation of a tag's value begins at the offset; it is the quoted one
 abbrev pub BeginsIn : Option Bytes → Refusal → Type 0
-BeginsIn none r = ⊥
-BeginsIn (some v) r = (r.offset ≤ length v) × Begins 59 v r.offset
+BeginsIn None r = ⊥
+BeginsIn (Some v) r = (r.offset ≤ length v) × Begins 59 v r.offset
 
 abbrev pub QuotedIn : Kind → Option Bytes → Refusal → Type 0
-QuotedIn k none r = ⊥
-QuotedIn k (some v) r = Quoted v r (λ w. tag_relations (tag_number k) (add_to k) r.offset (w ∷ []) empty)
+QuotedIn k None r = ⊥
+QuotedIn k (Some v) r = Quoted v r (λ w. tag_relations (tag_number k) (add_to k) r.offset (w ∷ []) empty)
 
 -- the value of the tag of a kind
 abbrev pub tag_of : Kind → Option Bytes → Option Bytes → Option Bytes
@@ -241,38 +239,38 @@ pub record Best (R : Relation) (a : Bytes) (ss : List Step) (b : Bytes) : Type 0
   pub first : (ts : List Step) → IsPath R a ts b → (ts ≡ ss) ⊎ ((length ss < length ts) ⊎ ((length ss ≡ length ts) × Before ss ts))
 
 abbrev pub Reachable : Relation → Option Bytes → Bytes → Type 0
-Reachable R none n = ⊥
-Reachable R (some a) n = (ss : List Step) × IsPath R a ss n
+Reachable R None n = ⊥
+Reachable R (Some a) n = (ss : List Step) × IsPath R a ss n
 
 -- the right answer: yes, with the bytes of the best path, where both graphs are named, there is a path and its bytes fit the room; 17
 -- where they do not fit; no where there is no path; and no other refusal
 abbrev pub RightBetween : Relation → Bytes → Bytes → ℕ → Answer → Type 0
-RightBetween R a b room (refusal n) = (n ≡ 17) × ((ss : List Step) × Best R a ss b × (room < length (path_bytes a ss)))
-RightBetween R a b room not_found = (ss : List Step) → IsPath R a ss b → ⊥
-RightBetween R a b room (found bytes) = (ss : List Step) × Best R a ss b × (bytes ≡ path_bytes a ss) × (length bytes ≤ room)
+RightBetween R a b room (Err e) = (e ≡ OutputShort) × ((ss : List Step) × Best R a ss b × (room < length (path_bytes a ss)))
+RightBetween R a b room (Ok None) = (ss : List Step) → IsPath R a ss b → ⊥
+RightBetween R a b room (Ok (Some bytes)) = (ss : List Step) × Best R a ss b × (bytes ≡ path_bytes a ss) × (length bytes ≤ room)
 
 abbrev pub Right : Relation → Option Bytes → Option Bytes → ℕ → Answer → Type 0
-Right R none b room r = r ≡ not_found
-Right R (some a) none room r = r ≡ not_found
-Right R (some a) (some b) room r = RightBetween R a b room r
+Right R None b room r = r ≡ (Ok None)
+Right R (Some a) None room r = r ≡ (Ok None)
+Right R (Some a) (Some b) room r = RightBetween R a b room r
 
 -- the bytes of the best path, where there is one, fit the room
 abbrev pub HasRoom : Relation → Option Bytes → Option Bytes → ℕ → Type 0
-HasRoom R none b room = Unit {0}
-HasRoom R (some a) none room = Unit {0}
-HasRoom R (some a) (some b) room = (ss : List Step) → Best R a ss b → length (path_bytes a ss) ≤ room
+HasRoom R None b room = Unit {0}
+HasRoom R (Some a) None room = Unit {0}
+HasRoom R (Some a) (Some b) room = (ss : List Step) → Best R a ss b → length (path_bytes a ss) ≤ room
 
 -- one question, in its two parts: what is answered, and that nothing but the reachable relations counts
 module _ (ask : Bytes → Bytes → ℕ → Answer) (by : GraphName → GraphName → Relation) where
   abbrev pub AnswersRight : Type 0
   AnswersRight =
-      (b c : Bytes) (g h : GraphName) (room : ℕ) → decode b ≡ some g → decode c ≡ some h
+      (b c : Bytes) (g h : GraphName) (room : ℕ) → decode b ≡ Some g → decode c ≡ Some h
       → Right (by g h) g.name h.name room (ask b c room)
 
   abbrev pub Local : Type 0
   Local =
       (b c b' c' : Bytes) (g h g' h' : GraphName) (room room' : ℕ)
-      → decode b ≡ some g → decode c ≡ some h → decode b' ≡ some g' → decode c' ≡ some h'
+      → decode b ≡ Some g → decode c ≡ Some h → decode b' ≡ Some g' → decode c' ≡ Some h'
       → g.name ≡ g'.name → h.name ≡ h'.name
       → ((n : Bytes) → Reachable (by g h) g.name n → (k : Kind) (m : Bytes) → by g h k n m ↔ by g' h' k n m)
       → HasRoom (by g h) g.name h.name room → HasRoom (by g' h') g'.name h'.name room'
@@ -302,9 +300,9 @@ FieldFine fs zero = get_or fs 0 [] ≡ text "H"
 FieldFine fs (suc i) = TypedField (get_or fs (suc i) []) × ((j : ℕ) → j < i → take 2 (get_or fs (suc j) []) ≢ take 2 (get_or fs (suc i) []))
 
 -- fine where every field is; else the first that is not
-abbrev pub StrictOf : List Bytes → Strictness → Type 0
-StrictOf fs Fine = (i : ℕ) → i < length fs → FieldFine fs i
-StrictOf fs (Faulty n) = (n < length fs) × (FieldFine fs n → ⊥) × ((i : ℕ) → i < n → FieldFine fs i)
+abbrev pub StrictOf : List Bytes → Result Unit ℕ → Type 0
+StrictOf fs (Ok tt) = (i : ℕ) → i < length fs → FieldFine fs i
+StrictOf fs (Err n) = (n < length fs) × (FieldFine fs n → ⊥) × ((i : ℕ) → i < n → FieldFine fs i)
 
 abbrev pub StrictRight : Type 0
 StrictRight = (line : Bytes) → StrictOf (split 9 line) (strict line)

@@ -1,8 +1,7 @@
 -- The tag list: all tags of a graph, a finite map from lowered keys to values, kept as its list ascending by key; and its block of bytes
 -- (docs/FORMAT.md, "Tag lists").
-use Rattle.std.specs.Prelude.{◌≡◌, refl, Bool, true, cond, not, ◌&&◌, List, [], ◌∷◌, ◌++◌, ℕ, zero, suc, ◌+◌, ◌*◌, length, take, drop, leb}
-use Rattle.std.proofs.Math.Option.{Option, some, none}
-use Rattle.model.specs.declared.Order.{Order}
+use Rattle.std.specs.Prelude.{◌≡◌, refl, Bool, true, cond, not, ◌&&◌, List, [], ◌∷◌, ◌++◌, ℕ, zero, suc, ◌+◌, ◌*◌, length, take, drop, leb, Option, Some, None}
+use Rattle.std.specs.declared.cmp.Ordering.{Ordering}
 use Rattle.model.specs.Text.{text}
 use Rattle.model.specs.Bytes.{Bytes, by_order, compare_bytes, same_bytes, every_byte, pad_to}
 use Rattle.model.specs.Numbers.{le32, number32}
@@ -19,12 +18,12 @@ pub record Tag : Type 0 where
 abbrev pub tag : Bytes → Bytes → Tag
 tag k v = record { key = k; value = v }
 
-abbrev pub compare_tags : Tag → Tag → Order
+abbrev pub compare_tags : Tag → Tag → Ordering
 compare_tags s t = compare_bytes s.key t.key
 
 unfoldable pub look_up : Bytes → List Tag → Option Bytes
-look_up k [] = none
-look_up k (t ∷ ts) = cond (same_bytes k t.key) (some t.value) (look_up k ts)
+look_up k [] = None
+look_up k (t ∷ ts) = cond (same_bytes k t.key) (Some t.value) (look_up k ts)
 
 -- a held key's value is replaced
 unfoldable pub set_tag : Bytes → Bytes → List Tag → List Tag
@@ -36,8 +35,8 @@ remove_tag k [] = []
 remove_tag k (t ∷ ts) = by_order (compare_bytes k t.key) (t ∷ ts) ts (t ∷ remove_tag k ts)
 
 abbrev pub set_or_remove : Bytes → Option Bytes → List Tag → List Tag
-set_or_remove k none ts = remove_tag k ts
-set_or_remove k (some v) ts = set_tag k v ts
+set_or_remove k None ts = remove_tag k ts
+set_or_remove k (Some v) ts = set_tag k v ts
 
 -- a record's three tags at once, absent ones removed
 unfoldable pub set_graph_name : GraphName → List Tag → List Tag
@@ -134,4 +133,4 @@ shown_tags b = tags_in (number32 b 0) (drop tag_count_length b) (drop (keys_afte
 
 -- a block is a tag list exactly if what it shows is one and it is the encoding of that
 unfoldable pub decode_tags : Bytes → Option (List Tag)
-decode_tags b = cond (is_tag_list (shown_tags b) && same_bytes (encode_tags (shown_tags b)) b) (some (shown_tags b)) none
+decode_tags b = cond (is_tag_list (shown_tags b) && same_bytes (encode_tags (shown_tags b)) b) (Some (shown_tags b)) None

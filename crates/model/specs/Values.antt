@@ -1,8 +1,5 @@
 -- The numbers that answers are handed out as, and the flags that come in: 1 and 0 for yes and no, 0 beside a part that is not there.
-use Rattle.std.specs.Prelude.{Bool, true, false, cond, not, ℕ, ◌+◌, length, eqb}
-use Rattle.std.proofs.Math.Option.{Option, some, none}
-use Rattle.model.specs.declared.Strictness.{Strictness}
-use Rattle.model.specs.declared.Strictness.TheVariants.{Fine, Faulty}
+use Rattle.std.specs.Prelude.{Result, Bool, true, false, cond, not, ℕ, ◌+◌, length, eqb, Option, Some, None, Ok, Err}
 use Rattle.model.specs.Bytes.{Bytes}
 use Rattle.model.specs.Questions.{Part, PairParts}
 use Rattle.model.specs.TagOutcome.{TagParts}
@@ -12,12 +9,12 @@ one_if true = 1
 one_if false = 0
 
 abbrev pub is_present : {A : Type 0} → Option A → ℕ
-is_present none = 0
-is_present (some a) = 1
+is_present None = 0
+is_present (Some a) = 1
 
 abbrev pub or_zero : {A : Type 0} → (A → ℕ) → Option A → ℕ
-or_zero f none = 0
-or_zero f (some a) = f a
+or_zero f None = 0
+or_zero f (Some a) = f a
 
 abbrev pub length_of : Option Bytes → ℕ
 length_of = or_zero length
@@ -53,13 +50,13 @@ abbrev pub value_size_of : Option TagParts → ℕ
 value_size_of = or_zero (λ (p : TagParts). p.value.size)
 
 -- 0 for fine, else one more than the number of the first faulty field
-abbrev pub strict_number : Strictness → ℕ
-strict_number Fine = 0
-strict_number (Faulty n) = n + 1
+abbrev pub strict_number : Result Unit ℕ → ℕ
+strict_number (Ok tt) = 0
+strict_number (Err n) = n + 1
 
 -- a tag's value, where the tag is there
 abbrev pub given : Bool → Bytes → Option Bytes
-given there value = cond there (some value) none
+given there value = cond there (Some value) None
 
 -- the same by a flag: the tag is there if its flag is not 0
 abbrev pub flagged : ℕ → Bytes → Option Bytes

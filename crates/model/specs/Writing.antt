@@ -1,6 +1,5 @@
 -- The texts that a graph name is written as.
-use Rattle.std.specs.Prelude.{List, [], ◌∷◌, ◌++◌, ℕ}
-use Rattle.std.proofs.Math.Option.{Option, some, none}
+use Rattle.std.specs.Prelude.{List, [], ◌∷◌, ◌++◌, ℕ, Option, Some, None}
 use Rattle.model.specs.Text.{text}
 use Rattle.model.specs.Bytes.{Bytes}
 use Rattle.model.specs.Record.{Pair, GraphName}
@@ -11,8 +10,8 @@ pair_lines before between [] = []
 pair_lines before between (p ∷ ps) = before ++ p.from ++ (between ∷ p.to) ++ (10 ∷ []) ++ pair_lines before between ps
 
 abbrev pub name_line : Bytes → Option Bytes → Bytes
-name_line before none = []
-name_line before (some n) = before ++ n ++ (10 ∷ [])
+name_line before None = []
+name_line before (Some n) = before ++ n ++ (10 ∷ [])
 
 -- `H<TAB>NM:Z:name`, `H<TAB>SG:Z:from,to`, `H<TAB>TL:Z:from,to`
 unfoldable pub to_gfa_header_lines : GraphName → Bytes
@@ -34,5 +33,5 @@ more_relations [] = []
 more_relations (p ∷ ps) = (59 ∷ p.from) ++ (44 ∷ p.to) ++ more_relations ps
 
 unfoldable pub relations_tag : List Pair → Option Bytes
-relations_tag [] = none
-relations_tag (p ∷ ps) = some (p.from ++ (44 ∷ p.to) ++ more_relations ps)
+relations_tag [] = None
+relations_tag (p ∷ ps) = Some (p.from ++ (44 ∷ p.to) ++ more_relations ps)

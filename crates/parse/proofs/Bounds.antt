@@ -2,7 +2,7 @@
 use mathlib.Core.Path.{◌≡◌, refl}
 use mathlib.Core.Bool.{Bool, true, false, cond, not, ◌||◌}
 use mathlib.Core.List.{List, [], ◌∷◌}
-use mathlib.Core.Option.{Option, some, none}
+use Rattle.std.specs.Prelude.{Option, Some, None}
 use Prim.Native.Nat.{ℕ, suc, ◌+◌, ◌≤◌}
 use native.Mathlib.Omega.{arith}
 use lib.Dec.{lit≤, eqb, ltb}
@@ -43,8 +43,8 @@ judged_small g = go (eqb (judge g) 0) refl
     go false e = judge_small g
 
 or_wrong_small : (n : ℕ) → n ≤ 14 → (o : Option GraphName) → SmallTaken (or_wrong n o)
-or_wrong_small n h none = h
-or_wrong_small n h (some g) = judged_small g
+or_wrong_small n h None = h
+or_wrong_small n h (Some g) = judged_small g
 
 typed_field_small : (g : GraphName) → judge g ≡ 0 → (f : Bytes) → SmallTaken (typed_field g f)
 unfolding typed_field
@@ -107,13 +107,13 @@ relations_small n h add start (r ∷ rs) g k =
 
 value_small : (n : ℕ) → n ≤ 14 → (add : GraphName → Option Pair → Option GraphName) (v : Option Bytes) (g : GraphName) → judge g ≡ 0 → Small (tag_value n add v g)
 unfolding tag_value
-value_small n h add none g k = k
-value_small n h add (some v) g k = relations_small n h add 0 (split 59 v) g k
+value_small n h add None g k = k
+value_small n h add (Some v) g k = relations_small n h add 0 (split 59 v) g k
 
 name_small : (v : Option Bytes) (g : GraphName) → judge g ≡ 0 → Small (name_value v g)
 unfolding name_value
-name_small none g h = h
-name_small (some v) g h = taken_small (judged (with_name v g)) done 0 0 0 0 (judged_small (with_name v g)) (λ g' k. k)
+name_small None g h = h
+name_small (Some v) g h = taken_small (judged (with_name v g)) done 0 0 0 0 (judged_small (with_name v g)) (λ g' k. k)
 
 pub tags_small : (n s t : Option Bytes) → Small (from_tags n s t)
 unfolding from_tags

@@ -3,11 +3,12 @@ use mathlib.Core.Path.{◌≡◌, refl, sym, ◌∙◌}
 use mathlib.Core.Logic.{◌≢◌}
 use mathlib.Core.Bool.{Bool, true, false, cond, ◌&&◌, ◌||◌}
 use mathlib.Core.List.{List, [], ◌∷◌}
-use mathlib.Core.Option.{Option, some, none}
+use Rattle.std.specs.Prelude.{Option, Some, None, Ok, Err}
 use Prim.Native.Nat.{ℕ, ◌+◌, ◌*◌, ◌≤◌}
 use native.Mathlib.Omega.{arith}
 use lib.Dec.{lit≤, eqb, leb}
 use lib.ListN.{length, drop, replicate, length-append, length-drop, length-replicate}
+use Rattle.model.specs.declared.fault.Fault.TheVariants.{WrongBuffer, OutputShort, LongDesc}
 use borrow.Author.Tests.{eqb-true, eqb-false, leb-true}
 use Rattle.model.specs.declared.Kind.{Kind}
 use Rattle.model.specs.declared.Kind.TheVariants.{Subgraph, Translation}
@@ -20,9 +21,9 @@ use Rattle.model.specs.Message.{error_message}
 use Rattle.model.specs.Describe.{describe_relationship}
 use Rattle.model.specs.Writing.{to_gfa_header_lines, to_gaf_header_lines}
 use Rattle.model.specs.Outcome.{Outcome, reading_into, read_into, read_tags_into, refusal_into, or_left, kept_or, add_pair, add_subgraph, add_translation, change_from, add_relationships, related, relate, make_subgraph_of, add_translation_to, fresh_or, new_record}
-use Rattle.model.specs.Outcome.{Answer, refusal, not_found, found, answered, name_or, or_refusal, sized, ask, ask_subgraph, ask_full, output_after, answer_number, answer_value}
+use Rattle.model.specs.Outcome.{Answer, answered, name_or, or_refusal, sized, ask, ask_subgraph, ask_full, output_after, answer_number, answer_value}
 use Rattle.model.specs.Questions.{asked, asked_both, counts_in, name_in, name_at_in, pair_at_in, is_same_in}
-use Rattle.model.specs.Opening.{Given, refuses, gives, number_of, and_then, both_given, or_refuse, Buffer, opened, has_size, record_in, two_records}
+use Rattle.model.specs.Opening.{Given, number_of, and_then, both_given, or_refuse, Buffer, opened, has_size, record_in, two_records}
 use Rattle.model.specs.Written.{within, gfa_written, gaf_written, message_written, with_descs, relationship_written, output_with, Tags, tags_of, fits, all_within, tags_written, put_value}
 use Rattle.model.specs.Statements.{LeavesEmpty, LeavesRecord, LeavesNumbers, LeavesOutput, OneTagLeft, LeavesTags, LeavesAnswer, RecordsDemand1}
 use Rattle.text.proofs.Put.{length_put}
@@ -127,27 +128,27 @@ record_small : (b : Bytes) → number_of (record_in b).reading ≤ 18
 record_small b = go (decode b)
   where
     go : (o : Option GraphName) → number_of (or_refuse 16 o) ≤ 18
-    go none = lit≤ tt
-    go (some g) = lit≤ tt
+    go None = lit≤ tt
+    go (Some g) = lit≤ tt
 
 two_small : (b c : Bytes) → number_of (two_records b c).reading ≤ 18
 two_small b c = go (record_in b).reading (record_in c).reading (record_small b) (record_small c)
   where
     go : (g h : Given GraphName) → number_of g ≤ 18 → number_of h ≤ 18 → number_of (both_given g h) ≤ 18
-    go (refuses n) h p q = p
-    go (gives a) (refuses n) p q = q
-    go (gives a) (gives c) p q = lit≤ tt
+    go (Err n) h p q = p
+    go (Ok a) (Err n) p q = q
+    go (Ok a) (Ok c) p q = lit≤ tt
 
 -- f of what was opened, for whatever an opening gives: a size, a number of what is read, or an answer
 module _ {A B : Type 0} (x : Buffer A) (small : number_of x.reading ≤ 18) (f : Given A → B) (P : B → Type 0) where
-  of_opened : P (f (refuses 15)) → ((n : ℕ) → x.sized ≡ true → n ≤ 18 → P (f (refuses n))) → ((a : A) → x.sized ≡ true → P (f (gives a))) → P (f (opened x))
+  of_opened : P (f (Err WrongBuffer)) → ((n : ℕ) → x.sized ≡ true → n ≤ 18 → P (f (Err n))) → ((a : A) → x.sized ≡ true → P (f (Ok a))) → P (f (opened x))
   unfolding opened
   of_opened sized numbered given = go x.sized refl x.reading small
     where
-      go : (t : Bool) → x.sized ≡ t → (g : Given A) → number_of g ≤ 18 → P (f (cond t g (refuses 15)))
+      go : (t : Bool) → x.sized ≡ t → (g : Given A) → number_of g ≤ 18 → P (f (cond t g (Err WrongBuffer)))
       go false e g h = sized
-      go true e (refuses n) h = numbered n e h
-      go true e (gives a) h = given a e
+      go true e (Err n) h = numbered n e h
+      go true e (Ok a) h = given a e
 
 -- ------------------------------------------------------------------ changes
 
@@ -184,9 +185,9 @@ module _ (b : Bytes) where
         go false h = left (judge g) (let k = judge_small g in omega arith)
 
     related_left : (kind : Kind) (g h : GraphName) (m n : Option Bytes) → RecordAt b (related kind b g h m n)
-    related_left kind g h none n = left 0 (lit≤ tt)
-    related_left kind g h (some m) none = left 0 (lit≤ tt)
-    related_left kind g h (some m) (some n) = kept (with_pair kind (record { from = m; to = n }) (with_relationships h g))
+    related_left kind g h None n = left 0 (lit≤ tt)
+    related_left kind g h (Some m) None = left 0 (lit≤ tt)
+    related_left kind g h (Some m) (Some n) = kept (with_pair kind (record { from = m; to = n }) (with_relationships h g))
 
     added_left : (t : Bool) (g : GraphName) → RecordAt b (cond t (record { number = 0; buffer = b }) (kept_or b g))
     added_left true g = left 0 (lit≤ tt)
@@ -216,18 +217,18 @@ module _ (b : Bytes) where
 -- ------------------------------------------------------------------ questions
 
 numbers_left : {A : Type 0} (a : Given A) → number_of a ≤ 18 → LeavesNumbers a
-numbers_left (refuses n) h = record { number = h; kept = λ m value old. refl }
-numbers_left (gives x) h = record { number = h; kept = λ m. absurd (m refl) }
+numbers_left (Err n) h = record { number = h; kept = λ m value old. refl }
+numbers_left (Ok x) h = record { number = h; kept = λ m. absurd (m refl) }
 
 asked_small : {A : Type 0} (b : Bytes) (f : GraphName → A) → number_of (asked b f) ≤ 18
 unfolding asked
 asked_small {A} b f =
-    of_opened (record_in b) (record_small b) (λ g. and_then g λ h. gives (f h)) (λ (g : Given A). number_of g ≤ 18) (lit≤ tt) (λ n e h. h) (λ g e. lit≤ tt)
+    of_opened (record_in b) (record_small b) (λ g. and_then g λ h. Ok (f h)) (λ (g : Given A). number_of g ≤ 18) (lit≤ tt) (λ n e h. h) (λ g e. lit≤ tt)
 
 both_small : {A : Type 0} (b c : Bytes) (f : GraphName → GraphName → A) → number_of (asked_both b c f) ≤ 18
 unfolding asked_both
 both_small {A} b c f =
-    of_opened (two_records b c) (two_small b c) (λ g. and_then g λ r. gives (f r.0 r.1)) (λ (g : Given A). number_of g ≤ 18) (lit≤ tt) (λ n e h. h) (λ g e. lit≤ tt)
+    of_opened (two_records b c) (two_small b c) (λ g. and_then g λ r. Ok (f r.0 r.1)) (λ (g : Given A). number_of g ≤ 18) (lit≤ tt) (λ n e h. h) (λ g e. lit≤ tt)
 
 asked_left : {A : Type 0} (b : Bytes) (f : GraphName → A) → LeavesNumbers (asked b f)
 asked_left b f = numbers_left (asked b f) (asked_small b f)
@@ -235,9 +236,9 @@ asked_left b f = numbers_left (asked b f) (asked_small b f)
 -- ------------------------------------------------------------------ path questions
 
 abbrev FitsIn : ℕ → Answer → Type 0
-FitsIn room (refusal n) = n ≤ 18
-FitsIn room not_found = Unit {0}
-FitsIn room (found bytes) = length bytes ≤ room
+FitsIn room (Err n) = n ≤ 18
+FitsIn room (Ok None) = Unit {0}
+FitsIn room (Ok (Some bytes)) = length bytes ≤ room
 
 module _ (path : GraphName → GraphName → Option (List Step)) (b c : Bytes) where
   answer_fits : (room : ℕ) → FitsIn room (ask path b c room)
@@ -245,13 +246,13 @@ module _ (path : GraphName → GraphName → Option (List Step)) (b c : Bytes) w
       of_opened (two_records b c) (two_small b c) (λ g. or_refusal g λ r. sized room (answered (name_or r.0.name) (path r.0 r.1))) (FitsIn room)
       (lit≤ tt) (λ n e h. h) (λ r e. whole (name_or r.0.name) (path r.0 r.1))
     where
-      cut : (bytes : Bytes) (t : Bool) → leb (length bytes) room ≡ t → FitsIn room (cond t (found bytes) (refusal 17))
+      cut : (bytes : Bytes) (t : Bool) → leb (length bytes) room ≡ t → FitsIn room (cond t (Ok (Some bytes)) (Err OutputShort))
       cut bytes true e = leb-true (length bytes) room e
       cut bytes false e = lit≤ tt
 
       whole : (a : Bytes) (o : Option (List Step)) → FitsIn room (sized room (answered a o))
-      whole a none = tt
-      whole a (some ss) = cut (path_bytes a ss) (leb (length (path_bytes a ss)) room) refl
+      whole a None = tt
+      whole a (Some ss) = cut (path_bytes a ss) (leb (length (path_bytes a ss)) room) refl
 
   answer_left : LeavesAnswer (ask path b c)
   answer_left = record {
@@ -262,24 +263,24 @@ module _ (path : GraphName → GraphName → Option (List Step)) (b c : Bytes) w
   }
     where
       small : (room : ℕ) (a : Answer) → FitsIn room a → answer_number a ≤ 18
-      small room (refusal n) h = h
-      small room not_found h = lit≤ tt
-      small room (found bytes) h = lit≤ tt
+      small room (Err n) h = h
+      small room (Ok None) h = lit≤ tt
+      small room (Ok (Some bytes)) h = lit≤ tt
 
       value : (old : ℕ) (a : Answer) → answer_number a ≢ 0 → answer_value old a ≡ old
-      value old (refusal n) h = refl
-      value old not_found h = absurd (h refl)
-      value old (found bytes) h = absurd (h refl)
+      value old (Err n) h = refl
+      value old (Ok None) h = absurd (h refl)
+      value old (Ok (Some bytes)) h = absurd (h refl)
 
       output : (out : Bytes) (a : Answer) → answer_number a ≢ 0 → output_after a out ≡ out
-      output out (refusal n) h = refl
-      output out not_found h = refl
-      output out (found bytes) h = absurd (h refl)
+      output out (Err n) h = refl
+      output out (Ok None) h = refl
+      output out (Ok (Some bytes)) h = absurd (h refl)
 
       same : (out : Bytes) (a : Answer) → FitsIn (length out) a → length (output_after a out) ≡ length out
-      same out (refusal n) h = refl
-      same out not_found h = refl
-      same out (found bytes) h = rw (length-append bytes (drop (length bytes) out), length-drop (length bytes) out) (omega arith)
+      same out (Err n) h = refl
+      same out (Ok None) h = refl
+      same out (Ok (Some bytes)) h = rw (length-append bytes (drop (length bytes) out), length-drop (length bytes) out) (omega arith)
 
 -- ------------------------------------------------------------------ writings
 
@@ -292,59 +293,59 @@ module _ (a : Given Bytes) (small : number_of a ≤ 18) where
   }
     where
       bound : (room : ℕ) (x : Given Bytes) → number_of x ≤ 18 → number_of (within room x) ≤ 18
-      bound room (refuses n) h = h
-      bound room (gives t) h = go (leb (length t) room)
+      bound room (Err n) h = h
+      bound room (Ok t) h = go (leb (length t) room)
         where
-          go : (u : Bool) → number_of (cond u (gives t) (refuses 17)) ≤ 18
+          go : (u : Bool) → number_of (cond u (Ok t) (Err OutputShort)) ≤ 18
           go true = lit≤ tt
           go false = lit≤ tt
 
       same : (out : Bytes) (x : Given Bytes) → number_of x ≢ 0 → output_with x out ≡ out
-      same out (refuses n) h = refl
-      same out (gives t) h = absurd (h refl)
+      same out (Err n) h = refl
+      same out (Ok t) h = absurd (h refl)
 
       long : (out : Bytes) (x : Given Bytes) → length (output_with (within (length out) x) out) ≡ length out
-      long out (refuses n) = refl
-      long out (gives t) = go (leb (length t) (length out)) refl
+      long out (Err n) = refl
+      long out (Ok t) = go (leb (length t) (length out)) refl
         where
-          go : (u : Bool) → leb (length t) (length out) ≡ u → length (output_with (cond u (gives t) (refuses 17)) out) ≡ length out
+          go : (u : Bool) → leb (length t) (length out) ≡ u → length (output_with (cond u (Ok t) (Err OutputShort)) out) ≡ length out
           go true e = let h = leb-true (length t) (length out) e in length_put out 0 t (omega arith)
           go false e = refl
 
 descs_small : (p q : Bytes) (a : Given Bytes) → number_of a ≤ 18 → number_of (with_descs p q a) ≤ 18
-descs_small p q (refuses n) h = h
-descs_small p q (gives t) h = go (leb (length p) 4096 && leb (length q) 4096)
+descs_small p q (Err n) h = h
+descs_small p q (Ok t) h = go (leb (length p) 4096 && leb (length q) 4096)
   where
-    go : (u : Bool) → number_of (cond u (gives t) (refuses 18)) ≤ 18
+    go : (u : Bool) → number_of (cond u (Ok t) (Err LongDesc)) ≤ 18
     go true = lit≤ tt
     go false = lit≤ tt
 
 -- ------------------------------------------------------------------ tags
 
 tag_left : (value : Tags → Option Bytes) (out : Bytes) (v : Tags) (u : Bool) → (u ≡ true → fits (value v) (length out) ≡ true)
-    → OneTagLeft value (cond u (gives v) (refuses 17)) out
+    → OneTagLeft value (cond u (Ok v) (Err OutputShort)) out
 tag_left value out v true h = (λ n. absurd (n refl), go (value v) (h refl))
   where
     go : (o : Option Bytes) → fits o (length out) ≡ true → length (put_value o out) ≡ length out
-    go none e = refl
-    go (some t) e = let h = leb-true (length t) (length out) e in length_put out 0 t (omega arith)
+    go None e = refl
+    go (Some t) e = let h = leb-true (length t) (length out) e in length_put out 0 t (omega arith)
 tag_left value out v false h = (λ n. refl, refl)
 
 tags_left : (a : Given Tags) → number_of a ≤ 18 → LeavesTags (λ n s t. all_within n s t a)
-tags_left (refuses k) small = record {
-  numbers = λ n s t. numbers_left (refuses k) small;
+tags_left (Err k) small = record {
+  numbers = λ n s t. numbers_left (Err k) small;
   name = λ n s t. (λ m. refl, refl);
   subgraph = λ n s t. (λ m. refl, refl);
   translation = λ n s t. (λ m. refl, refl);
 }
-tags_left (gives v) small = record {
-  numbers = λ n s t. numbers_left (all_within n s t (gives v)) (bound (fits v.name n && (fits v.subgraph s && fits v.translation t)));
+tags_left (Ok v) small = record {
+  numbers = λ n s t. numbers_left (all_within n s t (Ok v)) (bound (fits v.name n && (fits v.subgraph s && fits v.translation t)));
   name = λ n s t. tag_left (λ w. w.name) n v (all n s t) (λ e. (both_true (one n) (two s t) e).0);
   subgraph = λ n s t. tag_left (λ w. w.subgraph) s v (all n s t) (λ e. (rest n s t e).0);
   translation = λ n s t. tag_left (λ w. w.translation) t v (all n s t) (λ e. (rest n s t e).1);
 }
   where
-    bound : (u : Bool) → number_of (cond u (gives v) (refuses 17)) ≤ 18
+    bound : (u : Bool) → number_of (cond u (Ok v) (Err OutputShort)) ≤ 18
     bound true = lit≤ tt
     bound false = lit≤ tt
 
@@ -382,7 +383,7 @@ records_demand1 = record {
   translates_to = λ b c. answer_left full_path b c;
   to_gfa = λ b. output_left (asked b to_gfa_header_lines) (asked_small b to_gfa_header_lines);
   to_gaf = λ b. output_left (asked b to_gaf_header_lines) (asked_small b to_gaf_header_lines);
-  error_message_lem = λ number line part. output_left (gives (error_message number line part)) (lit≤ tt);
+  error_message_lem = λ number line part. output_left (Ok (error_message number line part)) (lit≤ tt);
   describe_relationship_lem = λ b c p q.
       let a = asked_both b c (λ g h. describe_relationship g h p q) in
       output_left (with_descs p q a) (descs_small p q a (both_small b c _));

@@ -1,6 +1,6 @@
 -- A reading's start and its end: the tables with nothing taken, the empty record, and what is answered.
 use mathlib.Core.Path.{◌≡◌, refl, sym, ◌∙◌}
-use mathlib.Core.Option.{none}
+use Rattle.std.specs.Prelude.{None}
 use mathlib.Core.List.Memᴰ
 use mathlib.Core.List.{List}
 use Prim.Native.Nat.{ℕ, ◌+◌, ◌-◌, ◌*◌}
@@ -44,7 +44,7 @@ fresh r s t p o = record {
 }
 
 module _ {refs subs trans : List ℕ} {pool own : Bytes} (f : Lengths refs subs trans pool own) where
-  nothing_good : Good none (tables refs subs trans pool nothing_taken.sizes)
+  nothing_good : Good None (tables refs subs trans pool nothing_taken.sizes)
   unfolding names insert_all Ascending Under
   nothing_good = record {
     kept = record {

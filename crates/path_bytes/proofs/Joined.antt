@@ -9,11 +9,12 @@ use native.Mathlib.Decide.{ℕ_discrete}
 use native.Mathlib.Omega.{arith}
 use lib.ListN.{length, set, drop, length-append, length-map}
 use lib.Seq.{set_comm, sets, sets-eq}
+use Rattle.std.specs.Prelude.{Ok, Some}
 use borrow.Author.Tests.{le-leb, lt-leb}
 use Rattle.model.specs.Bytes.{Bytes, put}
 use Rattle.model.specs.Numbers.{le16}
 use Rattle.model.specs.Path.{Step, path_bodies, path_bytes}
-use Rattle.model.specs.Outcome.{found, sized, output_after}
+use Rattle.model.specs.Outcome.{sized, output_after}
 use Rattle.text.proofs.Put.{length_put, put_append}
 use Rattle.search.specs.Steps.{max_nodes}
 use Rattle.search.specs.Queue.{node_at, prev_at, move_at}
@@ -184,5 +185,5 @@ module _ (b c : Bytes) (spans q : List ℕ) (place step at bodies : ℕ) (steps 
   path_written room o₁ count r o₂ e =
       let f = le-leb (length bytes) (length out) (omega (arith, whole_size)) in
       let g = whole_path (start_name b c spans q) (path_back b c spans q place) out (omega (arith, whole_size)) in
-      let h : put out 0 bytes ≡ output_after (sized (length out) (found bytes)) out = rw f (put_front out bytes) in
+      let h : put out 0 bytes ≡ output_after (sized (length out) (Ok (Some bytes))) out = rw f (put_front out bytes) in
       record { fits = sym f; is = e.is ∙ rw (count, behind) (rw steps_are at g) ∙ h }

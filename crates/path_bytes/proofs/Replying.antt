@@ -8,7 +8,7 @@ use lib.ListN.{length}
 use lib.Dec.{leb}
 use Rattle.model.specs.Bytes.{Bytes}
 use Rattle.model.specs.Path.{Relations, best_path, path_bytes}
-use Rattle.model.specs.Outcome.{found, answered}
+use Rattle.model.specs.Outcome.{answered}
 use Rattle.model.specs.Statements.{Relation}
 use Rattle.search.specs.declared.Searched.{Searched}
 use Rattle.search.specs.Steps.{leads}

@@ -1,8 +1,8 @@
 -- What a path question gives, beside the definitions of `model`: the case of its reply, and what the output then holds.
-use Rattle.std.specs.Prelude.{◌≡◌, List, ℕ, ◌<◌, length}
+use Rattle.std.specs.Prelude.{◌≡◌, List, ℕ, ◌<◌, length, Ok, Err, Some, None}
 use Rattle.model.specs.Bytes.{Bytes}
 use Rattle.model.specs.Path.{Relations, best_path}
-use Rattle.model.specs.Outcome.{Answer, refusal, not_found, found, answered, sized, output_after}
+use Rattle.model.specs.Outcome.{Answer, answered, sized, output_after}
 use Rattle.model.specs.Record.{compare_pairs}
 use Rattle.model.specs.Statements.{Ascending}
 use Rattle.search.specs.Promise.{Unindexed}
@@ -13,9 +13,9 @@ use Rattle.path_bytes.specs.declared.Reply.{Reply}
 use Rattle.path_bytes.specs.declared.Reply.TheVariants.{Refused, No, Yes}
 
 abbrev pub reply_of : Answer → Reply
-reply_of (refusal n) = Refused n
-reply_of not_found = No
-reply_of (found bytes) = Yes
+reply_of (Err n) = Refused n
+reply_of (Ok None) = No
+reply_of (Ok (Some bytes)) = Yes
 
 -- the reply, and the output after it
 abbrev pub Replies : Answer → Bytes → Reply → Bytes → Type 0

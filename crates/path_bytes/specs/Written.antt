@@ -3,7 +3,7 @@ use Rattle.std.specs.Prelude.{◌≡◌, Bool, List, [], ◌∷◌, ◌++◌, �
 use Rattle.model.specs.Bytes.{Bytes, put}
 use Rattle.model.specs.Numbers.{le16}
 use Rattle.model.specs.Path.{Step, kind_number, path_bodies, path_bytes}
-use Rattle.model.specs.Outcome.{found, sized, output_after}
+use Rattle.model.specs.Outcome.{sized, output_after}
 use Rattle.search.specs.Steps.{max_nodes}
 use Rattle.search.specs.Queue.{node_at}
 use Rattle.search.specs.Promise.{path_to, Back}

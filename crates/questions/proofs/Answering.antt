@@ -2,7 +2,7 @@
 use mathlib.Core.Path.{◌≡◌}
 use mathlib.Core.Bool.{Bool, true, false}
 use mathlib.Core.List.{List}
-use mathlib.Core.Option.{some}
+use Rattle.std.specs.Prelude.{Some}
 use Prim.Native.Nat.{ℕ, ◌+◌, ◌-◌, ◌≤◌, ◌<◌}
 use native.Mathlib.Omega.{arith}
 use lib.ListN.{length, take}
@@ -103,7 +103,7 @@ module _ (full : Bool) (b c : Bytes) (rows spans numbers steps starts places : L
   places_long = length-take-le u.nodes places fit.places_fit
 
   -- the steps stand for the relations of the records, whatever these are called
-  table : (g h : GraphName) → decode b ≡ some g → decode c ≡ some h → StepTable (take u.steps steps) (length (take u.nodes places)) name (by_question full g h)
+  table : (g h : GraphName) → decode b ≡ Some g → decode c ≡ Some h → StepTable (take u.steps steps) (length (take u.nodes places)) name (by_question full g h)
   table g h d e = rw places_long (is.gathered.steps g h d e u.nodes name is.numbered)
 
   pub askable : Askable (take u.nodes spans) (take u.steps steps) (take (u.nodes + 1) starts) from target (take u.nodes rows) (take u.nodes places)

@@ -1,6 +1,5 @@
 -- The question of either kind: about any two buffers, and between the own names of two records.
-use Rattle.std.specs.Prelude.{◌≡◌, Bool, cond, List, ℕ, ◌+◌, ◌-◌, ◌<◌, length, get_or}
-use Rattle.std.proofs.Math.Option.{some}
+use Rattle.std.specs.Prelude.{◌≡◌, Bool, cond, List, ℕ, ◌+◌, ◌-◌, ◌<◌, length, get_or, Some}
 use Rattle.model.specs.Bytes.{Bytes}
 use Rattle.model.specs.Record.{GraphName}
 use Rattle.model.specs.Layout.{name_count, own_number, name_at, decode}
@@ -33,5 +32,5 @@ target_node b c numbers = get_or numbers (name_count b + (own_number c - 1)) 0
 -- the right reply to a question from the own name of b to that of c
 abbrev pub RepliesOwn : Bool → Bytes → Bytes → Bytes → Reply → Bytes → Type 0
 RepliesOwn full b c out r o =
-    (g h : GraphName) → decode b ≡ some g → decode c ≡ some h
+    (g h : GraphName) → decode b ≡ Some g → decode c ≡ Some h
     → Replies (sized (length out) (answered (name_at b (own_number b - 1)) (best_path (relations_of full g h) (name_at b (own_number b - 1)) (name_at c (own_number c - 1))))) out r o

@@ -2,7 +2,7 @@
 use mathlib.Core.Path.{◌≡◌, refl, sym, ap, ◌∙◌}
 use mathlib.Core.Bool.{true}
 use mathlib.Core.List.{[]}
-use mathlib.Core.Option.{some}
+use Rattle.std.specs.Prelude.{Some}
 use Prim.Native.Nat.{ℕ, zero, suc, ◌+◌, ◌*◌, ◌≤◌, ◌<◌}
 use native.Mathlib.Omega.{arith}
 use native.Mathlib.Nat.{add-zero}
@@ -43,7 +43,7 @@ get_or_pairs_from b at (suc k) (suc i) d h =
     let e : at + pair_length * suc i ≡ at + pair_length + pair_length * i = omega arith in
     rw e (get_or_pairs_from b (at + pair_length) k i d (omega arith))
 
-module _ (b : Bytes) (g : GraphName) (e : decode b ≡ some g) where
+module _ (b : Bytes) (g : GraphName) (e : decode b ≡ Some g) where
   -- ------------------------------------------------------------------ names
 
   pub record_names : names g ≡ names_of b

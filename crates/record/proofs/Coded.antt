@@ -5,7 +5,7 @@ use mathlib.Core.Logic.{◌⊎◌, inl, inr, ⊎_elim}
 use mathlib.Core.Bool.{true, false}
 use mathlib.Core.List.Memᴰ
 use mathlib.Core.List.{List, [], ◌++◌, map, map-append, Memᴰ}
-use mathlib.Core.Option.{Option, some, none}
+use Rattle.std.specs.Prelude.{Option, Some, None}
 use Prim.Native.Nat.{ℕ, zero, suc, ◌≤◌, ◌<◌}
 use native.Mathlib.Omega.{arith}
 use lib.ListN.{length, length-map}
@@ -55,8 +55,8 @@ own_name_in ns zero = refl
 own_name_in ns (suc i) = refl
 
 own_places_of : (ns : List Bytes) (name : Option Bytes) → own_places (own_place ns name) ≡ map (λ x. place_of x ns) (own_name name)
-own_places_of ns none = refl
-own_places_of ns (some n) = refl
+own_places_of ns None = refl
+own_places_of ns (Some n) = refl
 
 abbrev places_used : Coded → List ℕ
 places_used c = used_places c.own c.subgraph c.translation
@@ -86,8 +86,8 @@ places_used_coded g =
 
 own_in_lem : (ns : List Bytes) (name : Option Bytes) → ((x : Bytes) → Memᴰ x (own_name name) → Memᴰ x ns)
     → (own_in ns (own_place ns name) ≡ name) × (own_place ns name ≤ length ns)
-own_in_lem ns none h = (refl, omega arith)
-own_in_lem ns (some n) h = let p = place_found n ns (h n (Memᴰ.head refl)) in (ap some p.1, p.0)
+own_in_lem ns None h = (refl, omega arith)
+own_in_lem ns (Some n) h = let p = place_found n ns (h n (Memᴰ.head refl)) in (ap Some p.1, p.0)
 
 pub meaning_coded : (g : GraphName) → meaning (coded g) ≡ g
 meaning_coded g i = record {

@@ -3,7 +3,7 @@
 use mathlib.Core.Path.{◌≡◌, refl, sym, ap, ◌∙◌}
 use mathlib.Core.Logic.{◌↔◌}
 use mathlib.Core.Bool.{Bool, true, false, cond, ◌&&◌, false≢true}
-use mathlib.Core.Option.{Option, some, none}
+use Rattle.std.specs.Prelude.{Option, Some, None}
 use Prim.Native.Nat.{ℕ}
 use native.Mathlib.Omega.{arith}
 use lib.Dec.{eqb}
@@ -54,7 +54,7 @@ shown_encode g v =
     ∙ ap meaning (read_write (coded g) (valid_fits g v))
     ∙ meaning_coded g
 
-decode_some : (b : Bytes) (g : GraphName) → shown b ≡ g → Valid g → encode g ≡ b → decode b ≡ some g
+decode_some : (b : Bytes) (g : GraphName) → shown b ≡ g → Valid g → encode g ≡ b → decode b ≡ Some g
 unfolding decode
 decode_some b g s v e = rw (s, (is_valid_true g).1 v, e, same_bytes_refl b)
 
@@ -62,15 +62,15 @@ pub encoded : Encoded
 encoded g v = decode_some (encode g) g (shown_encode g v) v refl
 
 -- what decodes passes both tests, and is what is shown
-decode_passes : (b : Bytes) (g : GraphName) → decode b ≡ some g → (is_valid (shown b) && same_bytes (encode (shown b)) b ≡ true) × (shown b ≡ g)
+decode_passes : (b : Bytes) (g : GraphName) → decode b ≡ Some g → (is_valid (shown b) && same_bytes (encode (shown b)) b ≡ true) × (shown b ≡ g)
 unfolding decode
 decode_passes b g e = go (is_valid (shown b) && same_bytes (encode (shown b)) b) e
   where
-    go : (t : Bool) → cond t (some (shown b)) none ≡ some g → (t ≡ true) × (shown b ≡ g)
+    go : (t : Bool) → cond t (Some (shown b)) None ≡ Some g → (t ≡ true) × (shown b ≡ g)
     go true e = (refl, cc)
     go false e = let z : ◌≡◌ {A = ℕ} 0 1 = cc in absurd (omega arith)
 
-pub decode_shown : (b : Bytes) (g : GraphName) → decode b ≡ some g → shown b ≡ g
+pub decode_shown : (b : Bytes) (g : GraphName) → decode b ≡ Some g → shown b ≡ g
 decode_shown b g e = (decode_passes b g e).1
 
 pub decoded : Decoded
@@ -82,18 +82,18 @@ decoded b g e =
 -- ------------------------------------------------------------------ the test
 
 -- what a buffer that passes the test decodes to
-pub held_decode : (b : Bytes) → AllBytes b → Held b → decode b ≡ some (meaning (read b))
+pub held_decode : (b : Bytes) → AllBytes b → Held b → decode b ≡ Some (meaning (read b))
 held_decode b a h =
     let f = held_fits b h in
     decode_some b (meaning (read b)) (shown_meaning b h) (meaning_valid (read b) f)
     (encode_write (meaning (read b)) ∙ ap write (coded_meaning (read b) f) ∙ write_read b h a)
 
-pub decode_held : (b : Bytes) (g : GraphName) → decode b ≡ some g → Held b
+pub decode_held : (b : Bytes) (g : GraphName) → decode b ≡ Some g → Held b
 decode_held b g e = let p = decoded b g e in rw p.1 (encode_held g p.0)
 
 pub is_record_lem : (b : Bytes) → AllBytes b → is_record b ≡ is_some (decode b)
 is_record_lem b a = same_tests (is_record b) (is_some (decode b)) (λ e. rw (held_decode b a (held b e))) (λ e. held_record b (go (decode b) refl e))
   where
     go : (o : Option GraphName) → decode b ≡ o → is_some o ≡ true → Held b
-    go none d e = absurd (false≢true e)
-    go (some g) d e = decode_held b g d
+    go None d e = absurd (false≢true e)
+    go (Some g) d e = decode_held b g d

@@ -2,7 +2,7 @@
 use mathlib.Core.Path.{◌≡◌, refl, sym, ap, ◌∙◌}
 use mathlib.Core.Logic.{◌≢◌}
 use mathlib.Core.Bool.{true, false}
-use mathlib.Core.Option.{Option, some, none}
+use Rattle.std.specs.Prelude.{Option, Some, None}
 use Prim.Native.Nat.{ℕ, zero, suc, ◌-◌}
 use native.Mathlib.Omega.{arith}
 use lib.Dec.{ltb}
@@ -13,15 +13,15 @@ use Rattle.model.specs.Opening.{is_some}
 use Rattle.model.specs.Outcome.{name_or}
 
 module _ (b : Bytes) (own : ℕ) (e : own ≡ own_number b) where
-  pub own_none : own ≡ 0 → (shown b).name ≡ none
+  pub own_none : own ≡ 0 → (shown b).name ≡ None
   unfolding shown
   own_none z = ap (own_at b) (sym e ∙ z)
 
-  pub own_some : own ≢ 0 → (shown b).name ≡ some (name_at b (own - 1))
+  pub own_some : own ≢ 0 → (shown b).name ≡ Some (name_at b (own - 1))
   unfolding shown
   own_some n = ap (own_at b) (sym e) ∙ go own n
     where
-      go : (i : ℕ) → i ≢ 0 → own_at b i ≡ some (name_at b (i - 1))
+      go : (i : ℕ) → i ≢ 0 → own_at b i ≡ Some (name_at b (i - 1))
       go zero n = absurd (n refl)
       go (suc i) n = let d : suc i - 1 ≡ i = omega arith in rw d
 
@@ -35,10 +35,10 @@ module _ (b : Bytes) (own : ℕ) (e : own ≡ own_number b) where
       go (suc i) = lt-ltb 0 (suc i) (omega arith)
 
 -- a name that is there, and one that is not
-pub named : (o : Option Bytes) → is_some o ≡ true → o ≡ some (name_or o)
-named none e = let k : ◌≡◌ {A = ℕ} 0 1 = cc in absurd (omega arith)
-named (some n) e = refl
+pub named : (o : Option Bytes) → is_some o ≡ true → o ≡ Some (name_or o)
+named None e = let k : ◌≡◌ {A = ℕ} 0 1 = cc in absurd (omega arith)
+named (Some n) e = refl
 
-pub unnamed : (o : Option Bytes) → is_some o ≡ false → o ≡ none
-unnamed none e = refl
-unnamed (some n) e = let k : ◌≡◌ {A = ℕ} 0 1 = cc in absurd (omega arith)
+pub unnamed : (o : Option Bytes) → is_some o ≡ false → o ≡ None
+unnamed None e = refl
+unnamed (Some n) e = let k : ◌≡◌ {A = ℕ} 0 1 = cc in absurd (omega arith)

@@ -1,11 +1,11 @@
 -- What the questions about a record give, from its bytes: a refusal where the buffer is no record, else the values that stand at known places.
 use mathlib.Core.Path.{◌≡◌, refl, sym, ap, ◌∙◌}
 use mathlib.Core.List.{List, [], ◌∷◌}
-use mathlib.Core.Option.{some, none}
+use Rattle.std.specs.Prelude.{Some, None, slice_get}
 use Prim.Native.Nat.{ℕ, zero, suc, ◌+◌, ◌*◌, ◌≤◌, ◌<◌}
 use native.Mathlib.Omega.{arith}
 use native.Mathlib.Nat.{add-zero, add_assoc, zero-add}
-use lib.ListN.{length, take, drop, get_or, get_elem?, length-append, length-drop}
+use lib.ListN.{length, take, drop, get_or, length-append, length-drop}
 use Rattle.model.specs.declared.Kind.{Kind}
 use Rattle.model.specs.declared.Kind.TheVariants.{Subgraph, Translation}
 use Rattle.model.specs.Bytes.{Bytes}
@@ -24,12 +24,12 @@ use Rattle.record.proofs.Access.{record_names, record_count, record_name, record
 
 -- ------------------------------------------------------------------ places
 
-get_elem_in : {A : Type 0} (xs : List A) (i : ℕ) (d : A) → i < length xs → get_elem? xs i ≡ some (get_or xs i d)
+get_elem_in : {A : Type 0} (xs : List A) (i : ℕ) (d : A) → i < length xs → slice_get xs i ≡ Some (get_or xs i d)
 get_elem_in [] i d h = absurd (omega arith)
 get_elem_in (x ∷ xs) zero d h = refl
 get_elem_in (x ∷ xs) (suc i) d h = get_elem_in xs i d (omega arith)
 
-get_elem_out : {A : Type 0} (xs : List A) (i : ℕ) → length xs ≤ i → get_elem? xs i ≡ none
+get_elem_out : {A : Type 0} (xs : List A) (i : ℕ) → length xs ≤ i → slice_get xs i ≡ None
 get_elem_out [] zero h = refl
 get_elem_out [] (suc i) h = refl
 get_elem_out (x ∷ xs) zero h = absurd (omega arith)
@@ -49,7 +49,7 @@ entry_part b i = record { start = bodies_at b + body_start b i; size = body_leng
 abbrev pub entry_parts : Bytes → ℕ → ℕ → PairParts
 entry_parts b i j = record { from = entry_part b i; to = entry_part b j }
 
-module _ (b : Bytes) (g : GraphName) (e : decode b ≡ some g) where
+module _ (b : Bytes) (g : GraphName) (e : decode b ≡ Some g) where
   entry_at : (i : ℕ) → i < name_count b
       → (body_start b i ≡ length (bodies (take i (names g)))) × (body_length b i ≡ length (get_or (names g) i []))
   entry_at i k =
@@ -68,22 +68,22 @@ module _ (b : Bytes) (g : GraphName) (e : decode b ≡ some g) where
       let entry = entry_at i k in
       rw (place_of_name (names g) i (names_ascending g) l, record_count b g e, record_pair_count b g e Subgraph, record_pair_count b g e Translation, entry.0, entry.1)
 
-  pub name_in_lem : (i : ℕ) → i < name_count b → mapped (part_of g) (get_elem? (names g) i) ≡ some (entry_part b i)
+  pub name_in_lem : (i : ℕ) → i < name_count b → mapped (part_of g) (slice_get (names g) i) ≡ Some (entry_part b i)
   name_in_lem i k = rw (get_elem_in (names g) i [] (rw (record_count b g e) k), part_at i k)
 
-  pub name_out : (i : ℕ) → name_count b ≤ i → mapped (part_of g) (get_elem? (names g) i) ≡ none
+  pub name_out : (i : ℕ) → name_count b ≤ i → mapped (part_of g) (slice_get (names g) i) ≡ None
   name_out i k = rw (get_elem_out (names g) i (rw (record_count b g e) k))
 
-  pub own_in_lem : (i : ℕ) → own_number b ≡ suc i → mapped (part_of g) g.name ≡ some (entry_part b i)
+  pub own_in_lem : (i : ℕ) → own_number b ≡ suc i → mapped (part_of g) g.name ≡ Some (entry_part b i)
   own_in_lem i k =
       let l : i < name_count b = omega (arith, (decode_held b g e).own) in
-      ap (mapped (part_of g)) (record_own b g e ∙ ap (own_at b) k) ∙ ap some (ap (part_of g) (sym (record_name b g e i l)) ∙ part_at i l)
+      ap (mapped (part_of g)) (record_own b g e ∙ ap (own_at b) k) ∙ ap Some (ap (part_of g) (sym (record_name b g e i l)) ∙ part_at i l)
 
-  pub own_out : own_number b ≡ 0 → g.name ≡ none
+  pub own_out : own_number b ≡ 0 → g.name ≡ None
   own_out k = rw (record_own b g e, k)
 
   pub pair_in : (k : Kind) (i : ℕ) → i < pair_count k b
-      → mapped (pair_parts g) (get_elem? (pairs_of k g) i) ≡ some (entry_parts b (number b (table_at k b + pair_length * i)) (number b (table_at k b + pair_length * i + 2)))
+      → mapped (pair_parts g) (slice_get (pairs_of k g) i) ≡ Some (entry_parts b (number b (table_at k b + pair_length * i)) (number b (table_at k b + pair_length * i + 2)))
   pair_in k i h =
       let d : Pair = record { from = []; to = [] } in
       let w = pair_within b g e k i h in
@@ -96,5 +96,5 @@ module _ (b : Bytes) (g : GraphName) (e : decode b ≡ some g) where
         part_at (number b (table_at k b + pair_length * i + 2)) w.1,
       )
 
-  pub pair_out : (k : Kind) (i : ℕ) → pair_count k b ≤ i → get_elem? (pairs_of k g) i ≡ none
+  pub pair_out : (k : Kind) (i : ℕ) → pair_count k b ≤ i → slice_get (pairs_of k g) i ≡ None
   pair_out k i h = get_elem_out (pairs_of k g) i (rw (record_pair_count b g e k) h)

@@ -7,7 +7,7 @@ use mathlib.Core.List.{List, [], ◌∷◌, map, Memᴰ}
 use Prim.Native.Nat.{ℕ, zero, suc, ◌<◌}
 use native.Mathlib.Omega.{arith}
 use lib.ListN.{length}
-use Rattle.model.specs.declared.Order.{Order}
+use Rattle.std.specs.declared.cmp.Ordering.{Ordering}
 use Rattle.model.specs.Bytes.{Bytes, then_by, compare_numbers, compare_bytes, same_bytes}
 use Rattle.model.specs.Record.{Pair, compare_pairs, ascends, pair_names}
 use Rattle.model.specs.Statements.{Ascending}
@@ -26,7 +26,7 @@ unfoldable pub flat : List (ℕ × ℕ) → List ℕ
 flat [] = []
 flat (p ∷ ps) = p.0 ∷ p.1 ∷ flat ps
 
-unfoldable pub compare_places : ℕ × ℕ → ℕ × ℕ → Order
+unfoldable pub compare_places : ℕ × ℕ → ℕ × ℕ → Ordering
 compare_places p q = then_by (compare_numbers p.0 q.0) (compare_numbers p.1 q.1)
 
 -- ------------------------------------------------------------------ a name's place

@@ -1,6 +1,5 @@
 -- Between a graph name and its bytes: the distinct names, ascending, and places in them. And the bytes of pairs of numbers.
-use Rattle.std.specs.Prelude.{List, [], ◌∷◌, ◌++◌, map, ℕ, zero, suc, ◌+◌, length, get_or}
-use Rattle.std.proofs.Math.Option.{Option, some, none}
+use Rattle.std.specs.Prelude.{List, [], ◌∷◌, ◌++◌, map, ℕ, zero, suc, ◌+◌, length, get_or, Option, Some, None}
 use Rattle.model.specs.Bytes.{Bytes}
 use Rattle.model.specs.Numbers.{le16}
 use Rattle.model.specs.Record.{Pair, GraphName}
@@ -19,8 +18,8 @@ abbrev pub pair_in : List Bytes → ℕ × ℕ → Pair
 pair_in ns p = record { from = name_in ns p.0; to = name_in ns p.1 }
 
 abbrev pub own_in : List Bytes → ℕ → Option Bytes
-own_in ns zero = none
-own_in ns (suc i) = some (name_in ns i)
+own_in ns zero = None
+own_in ns (suc i) = Some (name_in ns i)
 
 abbrev pub meaning : Coded → GraphName
 meaning c = record {

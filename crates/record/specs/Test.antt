@@ -3,7 +3,7 @@
 use Rattle.std.specs.Prelude.{Bool, true, false, cond, ◌&&◌, ◌||◌, List, [], ◌∷◌, ℕ, zero, suc, ◌+◌, ◌*◌, ◌<◌, length, take, drop, set, get_or, leb, ltb, eqb}
 use Rattle.text.specs.Blocks.{all_zero}
 use Rattle.model.specs.declared.Kind.TheVariants.{Subgraph, Translation}
-use Rattle.model.specs.declared.Order.{Order}
+use Rattle.std.specs.declared.cmp.Ordering.{Ordering}
 use Rattle.model.specs.Bytes.{Bytes, by_order, compare_bytes}
 use Rattle.model.specs.Numbers.{number}
 use Rattle.model.specs.Record.{ascends, max_name_bytes, max_names, max_pairs, max_bodies_bytes}
@@ -37,7 +37,7 @@ unfoldable pub cut : List (ℕ × ℕ) → Bytes → List Bytes
 cut [] b = []
 cut (e ∷ es) b = take e.1 b ∷ cut es (drop e.1 b)
 
-abbrev pub is_less : Order → Bool
+abbrev pub is_less : Ordering → Bool
 is_less o = by_order o true false false
 
 -- (a, b) comes before (c, d)

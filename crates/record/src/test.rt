@@ -8,7 +8,7 @@ ghost use Rattle.record.specs.Test.{entries_at, pairs_at, Under, body_end, cut, 
 use crate::offsets::{
     COUNTS_LENGTH, ENTRY_LENGTH, MAX_NAME_BYTES, MAX_NAMES, PAIR_LENGTH, RECORD_LENGTH,
 };
-use model::Order;
+use std::cmp::Ordering;
 use text::read16;
 
 // Where the bodies of n names end, counted from the first, if the entries leave no gap and no name is long; else a record's length.
@@ -94,9 +94,9 @@ fn is_less(a: &[u8], b: &[u8]) -> bool
     ensures { result ≡ is_less (compare_bytes a.now b.now) }
 {
     match text::compare(a, b) {
-        Order::Less => true,
-        Order::Equal => false,
-        Order::Greater => false,
+        Ordering::Less => true,
+        Ordering::Equal => false,
+        Ordering::Greater => false,
     }
 }
 

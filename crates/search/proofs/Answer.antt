@@ -3,7 +3,7 @@
 use mathlib.Core.Path.{◌≡◌, refl}
 use mathlib.Core.Bool.{Bool, true, false}
 use mathlib.Core.List.{List}
-use mathlib.Core.Option.{Option, some, none}
+use Rattle.std.specs.Prelude.{Option, Some, None}
 use Prim.Native.Nat.{ℕ, ◌-◌, ◌<◌}
 use Rattle.model.specs.Bytes.{Bytes}
 use Rattle.model.specs.Path.{Step, Relations, best_path}
@@ -20,8 +20,8 @@ use Rattle.search.proofs.Right.{best_right}
 
 -- the path that was found, or none
 abbrev pub path_if : Bool → List Step → Option (List Step)
-path_if true ss = some ss
-path_if false ss = none
+path_if true ss = Some ss
+path_if false ss = None
 
 module _ (M : Moves) (size : ℕ) (name : ℕ → Bytes) (R : names.Relation) (stands : Stands M size name R)
     (from target : ℕ) (inside : from < size) (asked : target < size) (q places : List ℕ) (r : Searched) (s : SearchedFrom M size from target q places r) where

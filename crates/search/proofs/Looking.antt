@@ -29,13 +29,13 @@ module _ (R : Moves) (from target : ℕ) where
   pub looking_start : (q places : List ℕ) → Room q places → from < length places → ((v : ℕ) → v < length places → get_or places v 0 ≡ 0)
       → Looking R (length places) from target (set q 0 from) (set places from 1) 1 0
   looking_start q places room small clear =
-      let some : 0 < length q = omega (arith, room.queue) in
-      let first : get_or (set q 0 from) 0 0 ≡ from = get_or-set_same q 0 from 0 some in
+      let Some : 0 < length q = omega (arith, room.queue) in
+      let first : get_or (set q 0 from) 0 0 ≡ from = get_or-set_same q 0 from 0 Some in
       record {
         state = record {
           room = record { queue = simp length-set room.queue; small = simp length-set room.small };
           found = rw (length-set places from 1) (omega (arith, zeros_set places from 0 small (clear from small), zeros_all places clear));
-          seats = places_start q places from some small room.small clear;
+          seats = places_start q places from Some small room.small clear;
           tree = tree_start R (set q 0 from) (rw first (omega (arith, room.small)));
         };
         passed = λ j l e. omega arith;

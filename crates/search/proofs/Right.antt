@@ -2,7 +2,7 @@
 use mathlib.Core.Logic.{◌↔◌}
 use mathlib.Core.List.Memᴰ
 use mathlib.Core.List.{List, ◌++◌, map, Memᴰ}
-use mathlib.Core.Option.{Option, some, none}
+use Rattle.std.specs.Prelude.{Option, Some, None}
 use Prim.Native.Nat.{◌+◌, ◌≤◌}
 use native.Mathlib.Omega.{arith}
 use lib.ListN.{length, length-append, length-map}
@@ -31,11 +31,11 @@ module _ (r : Relations) (subgraphs : Ascending compare_pairs r.subgraphs) (tran
       (path_from_right r subgraphs translations b 0 (length r.subgraphs + length r.translations) a)
     where
       go : (o : Option (List Step)) → Among r subgraphs translations b 0 (length r.subgraphs + length r.translations) a o → RightPath (related r) a b o
-      go none h = λ ss p.
+      go None h = λ ss p.
           let q = short_path (related r) b ends (λ v s. lead s.kind v s.next) ss a p in
           let l : length q.0 ≤ length r.subgraphs + length r.translations = simp (length-append, length-map) at q.2 in
           h q.0 q.1 (omega arith) (omega arith)
-      go (some ss) h = record { path = h.0; first = λ ts q. h.1 ts q (omega arith) }
+      go (Some ss) h = record { path = h.0; first = λ ts q. h.1 ts q (omega arith) }
 
   -- over any relation that the lists stand for
   pub best_path_right : (R : Relation) → ((k : Kind) (n m : Bytes) → related r k n m ↔ R k n m) → (a b : Bytes) → RightPath R a b (best_path r a b)

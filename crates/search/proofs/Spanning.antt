@@ -35,9 +35,9 @@ module _ (b c : Bytes) (start size : ℕ) (few : size < span_lengths) where
       go : Dec (start < length b) → spanned b c (start * span_lengths + size) ≡ take size (drop start b)
       go (yes o) = rw (start_is, size_is) at (spanned_first b c (start * span_lengths + size) (rw start_is o))
       go (no o) =
-          let none : size ≡ 0 = omega arith in
+          let None : size ≡ 0 = omega arith in
           rw (start_is, size_is) at (spanned_second b c (start * span_lengths + size) (rw start_is (omega arith)))
-          ∙ rw none
+          ∙ rw None
 
 -- or lies in the second
 pub span_in_second : (b c : Bytes) (start size : ℕ) → size < span_lengths → spanned b c ((length b + start) * span_lengths + size) ≡ take size (drop start c)

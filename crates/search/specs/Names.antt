@@ -1,6 +1,6 @@
 -- Nodes that stand for names, in the order of the names: what the numbers of a search say of the relations between names.
 use Rattle.std.specs.Prelude.{◌≡◌, cond, List, [], map, ℕ, ◌/◌, ◌%◌, ◌≤◌, ◌<◌, length, get_or, ltb}
-use Rattle.model.specs.declared.Order.TheVariants.{Less}
+use Rattle.std.specs.declared.cmp.Ordering.TheVariants.{Less}
 use Rattle.model.specs.declared.Kind.{Kind}
 use Rattle.model.specs.declared.Kind.TheVariants.{Subgraph, Translation}
 use Rattle.model.specs.Bytes.{Bytes, compare_bytes}

@@ -8,8 +8,8 @@ use native.Mathlib.Omega.{arith}
 use lib.ListN.{length, get_or, take, drop}
 use lib.Dec.{leb}
 use borrow.Author.Tests.{leb-true, leb-false}
-use Rattle.model.specs.declared.Order.{Order}
-use Rattle.model.specs.declared.Order.TheVariants.{Less, Equal, Greater}
+use Rattle.std.specs.declared.cmp.Ordering.{Ordering}
+use Rattle.std.specs.declared.cmp.Ordering.TheVariants.{Less, Equal, Greater}
 use Rattle.model.specs.Bytes.{by_order}
 use Rattle.model.specs.Record.{insert}
 use Rattle.model.specs.Statements.{Ascending}
@@ -18,13 +18,13 @@ use Rattle.text.proofs.Ascending.{ascending_tail, ascending_below, insert_presen
 use Rattle.text.proofs.Places.{get_or_member, ascending_get_or}
 use Rattle.sorted.specs.Sorted.{lower, spliced}
 
-module _ {A : Type 0} (cmp : A → A → Order) (x : A) where
+module _ {A : Type 0} (cmp : A → A → Ordering) (x : A) where
   pub lower_le : (xs : List A) → lower cmp x xs ≤ length xs
   unfolding lower
   lower_le [] = omega arith
   lower_le (y ∷ ys) = go (cmp y x) (lower_le ys)
     where
-      go : (o : Order) → lower cmp x ys ≤ length ys → by_order o (suc (lower cmp x ys)) 0 0 ≤ length (y ∷ ys)
+      go : (o : Ordering) → lower cmp x ys ≤ length ys → by_order o (suc (lower cmp x ys)) 0 0 ≤ length (y ∷ ys)
       go Less h = omega arith
       go Equal h = omega arith
       go Greater h = omega arith
@@ -35,14 +35,14 @@ module _ {A : Type 0} (cmp : A → A → Order) (x : A) where
   before_less d [] i h = absurd (omega arith)
   before_less d (y ∷ ys) i h = go (cmp y x) refl i h (before_less d ys)
     where
-      go : (o : Order) → cmp y x ≡ o → (i : ℕ) → i < by_order o (suc (lower cmp x ys)) 0 0
+      go : (o : Ordering) → cmp y x ≡ o → (i : ℕ) → i < by_order o (suc (lower cmp x ys)) 0 0
           → ((j : ℕ) → j < lower cmp x ys → cmp (get_or ys j d) x ≡ Less) → cmp (get_or (y ∷ ys) i d) x ≡ Less
       go Less e zero h rest = e
       go Less e (suc j) h rest = rest j (omega arith)
       go Equal e i h rest = absurd (omega arith)
       go Greater e i h rest = absurd (omega arith)
 
-module _ {A : Type 0} {cmp : A → A → Order} (ord : StrictOrder cmp) (d x : A) where
+module _ {A : Type 0} {cmp : A → A → Ordering} (ord : StrictOrder cmp) (d x : A) where
   -- one that is less stands before the place
   pub less_before : (xs : List A) (i : ℕ) → Ascending cmp xs → i < length xs → cmp (get_or xs i d) x ≡ Less → i < lower cmp x xs
   unfolding lower
@@ -81,7 +81,7 @@ module _ {A : Type 0} {cmp : A → A → Order} (ord : StrictOrder cmp) (d x : A
   insert_new [] a n = refl
   insert_new (y ∷ ys) a n = go (cmp x y) refl n (insert_new ys (ascending_tail cmp y ys a))
     where
-      go : (o : Order) → cmp x y ≡ o
+      go : (o : Ordering) → cmp x y ≡ o
           → (by_order (cmp y x) (suc (lower cmp x ys)) 0 0 < length (y ∷ ys) → get_or (y ∷ ys) (by_order (cmp y x) (suc (lower cmp x ys)) 0 0) d ≡ x → ⊥)
           → ((lower cmp x ys < length ys → get_or ys (lower cmp x ys) d ≡ x → ⊥) → insert cmp x ys ≡ take (lower cmp x ys) ys ++ (x ∷ drop (lower cmp x ys) ys))
           → by_order o (x ∷ y ∷ ys) (y ∷ ys) (y ∷ insert cmp x ys)

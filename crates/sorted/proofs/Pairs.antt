@@ -2,8 +2,8 @@
 use mathlib.Core.Path.{◌≡◌, refl, ap, ◌∙◌}
 use mathlib.Core.Logic.{◌⊎◌, inl, inr, ⊎_elim, ◌↔◌}
 use mathlib.Core.List.{List, [], ◌∷◌, ◌++◌, map, Memᴰ}
-use Rattle.model.specs.declared.Order.{Order}
-use Rattle.model.specs.declared.Order.TheVariants.{Less, Equal, Greater}
+use Rattle.std.specs.declared.cmp.Ordering.{Ordering}
+use Rattle.std.specs.declared.cmp.Ordering.TheVariants.{Less, Equal, Greater}
 use Rattle.model.specs.declared.Kind.{Kind}
 use Rattle.model.specs.declared.Kind.TheVariants.{Subgraph, Translation}
 use Rattle.model.specs.Bytes.{Bytes, by_order, compare_bytes}
@@ -13,14 +13,14 @@ use Rattle.text.proofs.Ascending.{insert_members, insert_ascending, ascending_un
 use Rattle.record.proofs.Names.{all_names, names_ascending, names_members}
 
 -- a map that keeps the order keeps insertion
-pub insert_map : {A B : Type 0} (cmp : A → A → Order) (cmp' : B → B → Order) (f : A → B) (x : A) (ys : List A)
+pub insert_map : {A B : Type 0} (cmp : A → A → Ordering) (cmp' : B → B → Ordering) (f : A → B) (x : A) (ys : List A)
     → ((y : A) → Memᴰ y ys → cmp' (f x) (f y) ≡ cmp x y) → map f (insert cmp x ys) ≡ insert cmp' (f x) (map f ys)
 unfolding insert
 insert_map cmp cmp' f x [] h = refl
 insert_map cmp cmp' f x (y ∷ ys) h =
     rw (h y (mathlib.Core.List.Memᴰ.head refl), ← insert_map cmp cmp' f x ys (λ z m. h z (mathlib.Core.List.Memᴰ.tail m))) (go (cmp x y))
   where
-    go : (o : Order) → map f (by_order o (x ∷ y ∷ ys) (y ∷ ys) (y ∷ insert cmp x ys)) ≡ by_order o (f x ∷ f y ∷ map f ys) (f y ∷ map f ys) (f y ∷ map f (insert cmp x ys))
+    go : (o : Ordering) → map f (by_order o (x ∷ y ∷ ys) (y ∷ ys) (y ∷ insert cmp x ys)) ≡ by_order o (f x ∷ f y ∷ map f ys) (f y ∷ map f ys) (f y ∷ map f (insert cmp x ys))
     go Less = refl
     go Equal = refl
     go Greater = refl

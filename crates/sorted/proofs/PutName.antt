@@ -3,14 +3,14 @@ use mathlib.Core.Path.{◌≡◌, refl, sym, ◌∙◌}
 use mathlib.Core.Logic.{⊎_elim}
 use mathlib.Core.Bool.{Bool, true, false, cond, false≢true}
 use mathlib.Core.List.{List, [], ◌∷◌, ◌++◌, map, Memᴰ}
-use mathlib.Core.Option.{none}
+use Rattle.std.specs.Prelude.{None}
 use Prim.Native.Nat.{ℕ, zero, suc, ◌+◌, ◌*◌, ◌/◌, ◌%◌, ◌≤◌, ◌<◌}
 use native.Mathlib.Omega.{arith}
 use lib.ListN.{length, take, drop, length-append, length-drop, length-map}
 use lib.Seq.{length-take-le, take_at}
 use lib.Dec.{ltb}
 use borrow.Author.Tests.{ltb-true, lt-ltb, le-ltb}
-use Rattle.model.specs.declared.Order.TheVariants.{Equal, Greater}
+use Rattle.std.specs.declared.cmp.Ordering.TheVariants.{Equal, Greater}
 use Rattle.model.specs.Statements.{Ascending}
 use Rattle.model.specs.Bytes.{Bytes, compare_bytes, same_bytes, put}
 use Rattle.model.specs.Record.{insert, any_long, max_name_bytes}
@@ -195,7 +195,7 @@ module _ (t : Tables) (name : Bytes) (k : Kept t) (r : NameRoom t name) (p : ℕ
   grown_graph =
       rw grown_names
       (λ i. record {
-        name = none;
+        name = None;
         subgraph = shown_renumbered n t.sizes.subgraph p t.subs few k.subgraph name (table_names t) p_length i;
         translation = shown_renumbered n t.sizes.translation p t.trans few k.translation name (table_names t) p_length i;
       })

@@ -3,13 +3,13 @@ use mathlib.Core.Path.{◌≡◌, refl, sym, ap, ◌∙◌}
 use mathlib.Core.Logic.{◌⊎◌, inl, inr, ⊎_elim}
 use mathlib.Core.Bool.{Bool, true, false}
 use mathlib.Core.List.{List, [], ◌∷◌, map, Memᴰ}
-use mathlib.Core.Option.{none}
+use Rattle.std.specs.Prelude.{None}
 use Prim.Native.Nat.{ℕ, suc, ◌+◌, ◌*◌, ◌/◌, ◌%◌, ◌≤◌, ◌<◌}
 use native.Mathlib.Omega.{arith}
 use lib.ListN.{length, take, get_or}
 use borrow.Author.Tests.{eq-eqb, ne_eqb}
-use Rattle.model.specs.declared.Order.{Order}
-use Rattle.model.specs.declared.Order.TheVariants.{Less, Equal, Greater}
+use Rattle.std.specs.declared.cmp.Ordering.{Ordering}
+use Rattle.std.specs.declared.cmp.Ordering.TheVariants.{Less, Equal, Greater}
 use Rattle.model.specs.declared.Kind.{Kind}
 use Rattle.model.specs.declared.Kind.TheVariants.{Subgraph, Translation}
 use Rattle.model.specs.Bytes.{Bytes, by_order, then_by, compare_numbers, compare_bytes}
@@ -34,13 +34,13 @@ use Rattle.sorted.proofs.PutName.{holds_true, holds_false}
 -- ------------------------------------------------------------------ the places of the names
 
 -- a name that was put in stands at its place
-module _ {A : Type 0} {cmp : A → A → Order} (ord : StrictOrder cmp) (d x : A) where
+module _ {A : Type 0} {cmp : A → A → Ordering} (ord : StrictOrder cmp) (d x : A) where
   pub insert_at_lower : (ys : List A) → (lower cmp x ys < length (insert cmp x ys)) × (get_or (insert cmp x ys) (lower cmp x ys) d ≡ x)
   unfolding insert lower
   insert_at_lower [] = (omega arith, refl)
   insert_at_lower (y ∷ ys) = rw (ord.flip x y) (go (cmp x y) refl (insert_at_lower ys))
     where
-      go : (o : Order) → cmp x y ≡ o → (lower cmp x ys < length (insert cmp x ys)) × (get_or (insert cmp x ys) (lower cmp x ys) d ≡ x)
+      go : (o : Ordering) → cmp x y ≡ o → (lower cmp x ys < length (insert cmp x ys)) × (get_or (insert cmp x ys) (lower cmp x ys) d ≡ x)
           → (by_order (opposite o) (suc (lower cmp x ys)) 0 0 < length (by_order o (x ∷ y ∷ ys) (y ∷ ys) (y ∷ insert cmp x ys)))
           × (get_or (by_order o (x ∷ y ∷ ys) (y ∷ ys) (y ∷ insert cmp x ys)) (by_order (opposite o) (suc (lower cmp x ys)) 0 0) d ≡ x)
       go Less e r = (omega arith, refl)
@@ -92,13 +92,13 @@ pub compare_places_lem : (x y : ℕ) → compare_places (places_of x) (places_of
 unfolding compare_places
 compare_places_lem x y = go (compare_numbers (x / 65536) (y / 65536)) refl (compared_numbers (x / 65536) (y / 65536))
   where
-    low : (o : Order) → compare_numbers (x % 65536) (y % 65536) ≡ o → by_order (compare_numbers (x % 65536) (y % 65536)) (x % 65536 < y % 65536) (x % 65536 ≡ y % 65536) (y % 65536 < x % 65536)
+    low : (o : Ordering) → compare_numbers (x % 65536) (y % 65536) ≡ o → by_order (compare_numbers (x % 65536) (y % 65536)) (x % 65536 < y % 65536) (x % 65536 ≡ y % 65536) (y % 65536 < x % 65536)
         → x / 65536 ≡ y / 65536 → o ≡ compare_numbers x y
     low Less e c q = let h : x % 65536 < y % 65536 = rw e at c in sym (less_numbers x y (omega arith))
     low Equal e c q = let h : x % 65536 ≡ y % 65536 = rw e at c in let z : x ≡ y = omega arith in sym (rw z (equal_numbers y))
     low Greater e c q = let h : y % 65536 < x % 65536 = rw e at c in sym (greater_numbers x y (omega arith))
 
-    go : (o : Order) → compare_numbers (x / 65536) (y / 65536) ≡ o → by_order (compare_numbers (x / 65536) (y / 65536)) (x / 65536 < y / 65536) (x / 65536 ≡ y / 65536) (y / 65536 < x / 65536)
+    go : (o : Ordering) → compare_numbers (x / 65536) (y / 65536) ≡ o → by_order (compare_numbers (x / 65536) (y / 65536)) (x / 65536 < y / 65536) (x / 65536 ≡ y / 65536) (y / 65536 < x / 65536)
         → then_by o (compare_numbers (x % 65536) (y % 65536)) ≡ compare_numbers x y
     go Less e c = let h : x / 65536 < y / 65536 = rw e at c in sym (less_numbers x y (omega arith))
     go Equal e c = low (compare_numbers (x % 65536) (y % 65536)) refl (compared_numbers (x % 65536) (y % 65536)) (rw e at c)
@@ -222,7 +222,7 @@ module _ (t u w : Tables) (from to : Bytes) (a b x : ℕ) (first : NamePut t fro
       let k = second.kept in
       rw e
       (with_pairs Subgraph r w.sizes.translation ys w.trans (put_kept w.sizes.subgraph r w.subs ys k.subgraph put h) k.translation
-      (ap (λ (ps : List Pair). record { name = none; subgraph = ps; translation = (graph_in w).translation })
+      (ap (λ (ps : List Pair). record { name = None; subgraph = ps; translation = (graph_in w).translation })
       (put_shown w.sizes.subgraph r w.subs ys k.subgraph put h)))
 
   pub translation_put : (kind : Kind) → kind ≡ Translation → (r : ℕ) (ys : List ℕ)
@@ -233,5 +233,5 @@ module _ (t u w : Tables) (from to : Bytes) (a b x : ℕ) (first : NamePut t fro
       let k = second.kept in
       rw e
       (with_pairs Translation w.sizes.subgraph r w.subs ys k.subgraph (put_kept w.sizes.translation r w.trans ys k.translation put h)
-      (ap (λ (ps : List Pair). record { name = none; subgraph = (graph_in w).subgraph; translation = ps })
+      (ap (λ (ps : List Pair). record { name = None; subgraph = (graph_in w).subgraph; translation = ps })
       (put_shown w.sizes.translation r w.trans ys k.translation put h)))

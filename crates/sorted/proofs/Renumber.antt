@@ -13,8 +13,8 @@ use lib.ListN.{length, take, get_or}
 use lib.Seq.{length-take-le, get_or-take}
 use lib.Dec.{leb, ltb}
 use borrow.Author.Tests.{leb-true, leb-false, ltb-true, ltb-false}
-use Rattle.model.specs.declared.Order.{Order}
-use Rattle.model.specs.declared.Order.TheVariants.{Less, Equal, Greater}
+use Rattle.std.specs.declared.cmp.Ordering.{Ordering}
+use Rattle.std.specs.declared.cmp.Ordering.TheVariants.{Less, Equal, Greater}
 use Rattle.model.specs.Bytes.{Bytes, by_order, compare_numbers}
 use Rattle.model.specs.Statements.{Ascending}
 use Rattle.record.specs.Test.{Under}
@@ -92,7 +92,7 @@ renumbered_less p x y s t h =
 pub compare_alike : (m n x y : ℕ) → (m < n → x < y) → (n < m → y < x) → (m ≡ n → x ≡ y) → compare_numbers x y ≡ compare_numbers m n
 compare_alike m n x y l g e = go (compare_numbers m n) refl (compared_numbers m n)
   where
-    go : (o : Order) → compare_numbers m n ≡ o → by_order (compare_numbers m n) (m < n) (m ≡ n) (n < m) → compare_numbers x y ≡ o
+    go : (o : Ordering) → compare_numbers m n ≡ o → by_order (compare_numbers m n) (m < n) (m ≡ n) (n < m) → compare_numbers x y ≡ o
     go Less d c = less_numbers x y (l (rw d at c))
     go Equal d c = rw (e (rw d at c)) (equal_numbers y)
     go Greater d c = greater_numbers x y (g (rw d at c))

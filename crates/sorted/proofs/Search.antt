@@ -8,7 +8,7 @@ use native.Mathlib.Omega.{arith}
 use lib.ListN.{length, take, drop, get_or, length-map, get_or-map}
 use lib.Seq.{length-take-le, get_or-take, take_at}
 use borrow.Author.Tests.{lt-ltb, le-ltb}
-use Rattle.model.specs.declared.Order.TheVariants.{Less, Equal, Greater}
+use Rattle.std.specs.declared.cmp.Ordering.TheVariants.{Less, Equal, Greater}
 use Rattle.model.specs.Bytes.{Bytes, compare_numbers, compare_bytes, same_bytes}
 use Rattle.model.specs.Record.{insert}
 use Rattle.model.specs.Statements.{Ascending}

@@ -1,10 +1,10 @@
 -- Ascending lists by place: where an element stands or would stand, and putting one in there. And places after a name came in.
 use Rattle.std.specs.Prelude.{cond, List, [], ◌∷◌, ◌++◌, ℕ, suc, ◌+◌, ◌*◌, ◌/◌, ◌%◌, take, drop, leb, eqb}
-use Rattle.model.specs.declared.Order.{Order}
+use Rattle.std.specs.declared.cmp.Ordering.{Ordering}
 use Rattle.model.specs.Bytes.{by_order}
 
 -- how many elements, from the front, are less than x
-unfoldable pub lower : {A : Type 0} → (A → A → Order) → A → List A → ℕ
+unfoldable pub lower : {A : Type 0} → (A → A → Ordering) → A → List A → ℕ
 lower cmp x [] = 0
 lower cmp x (y ∷ ys) = by_order (cmp y x) (suc (lower cmp x ys)) 0 0
 

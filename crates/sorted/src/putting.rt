@@ -6,7 +6,8 @@ ghost use Rattle.sorted.specs.Sorted.{lower, place_after};
 ghost use Rattle.sorted.specs.Tables.{tables, body_in, names_in, holds_at, Kept, NameRoom, PairRoom, NamePut, PairPut, Seeks};
 
 use crate::numbers::{insert_at, put_number, renumber};
-use model::{Kind, Order};
+use model::Kind;
+use std::cmp::Ordering;
 
 // How much of the tables is in use: names, bytes of the pool, and pairs of each kind.
 #[derive(Clone, Copy)]
@@ -48,14 +49,14 @@ fn seek(refs: &[u32], pool: &[u8], n: usize, name: &[u8]) -> Sought
     while lo < hi {
         let mid = lo + (hi - lo) / 2;
         match text::compare(body(pool, refs[mid]), name) {
-            Order::Less => lo = mid + 1,
-            Order::Equal => {
+            Ordering::Less => lo = mid + 1,
+            Ordering::Equal => {
                 return Sought {
                     place: mid,
                     there: true,
                 };
             }
-            Order::Greater => hi = mid,
+            Ordering::Greater => hi = mid,
         }
     }
     Sought {

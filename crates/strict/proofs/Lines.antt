@@ -8,7 +8,7 @@ use native.Mathlib.Numerals.{add-one}
 use lib.Dec.{eqb}
 use lib.ListN.{length, get_or, take, drop, set, replicate}
 use borrow.Author.Tests.{lt-ltb, le-ltb}
-use Rattle.model.specs.declared.Strictness.TheVariants.{Fine, Faulty}
+use Rattle.std.specs.Prelude.{Ok, Err}
 use Rattle.model.specs.Text.{text}
 use Rattle.model.specs.Bytes.{Bytes, same_bytes, index_of}
 use Rattle.model.specs.Strict.{fine_field, strict_fields, strict_parts, strict}
@@ -42,7 +42,7 @@ module _ (line : Bytes) (at e : ℕ) (h : at < length line) (f : e ≡ at + 1 + 
   module _ (end : ℕ) (seen : Bytes) (number : ℕ) (r : Reading line end seen at number) (t : Bool)
       (g : t ≡ fine_field (field_at line at e) && eqb (get_or seen (field_place (field_at line at e)) 0) 0) where
     decides : strict_fields 1 [] (fields_after line end)
-        ≡ cond t (strict_fields (suc number) (take 2 (field_at line at e) ∷ r.tags) (fields_after line e)) (Faulty number)
+        ≡ cond t (strict_fields (suc number) (take 2 (field_at line at e) ∷ r.tags) (fields_after line e)) (Err number)
     unfolding strict_fields
     decides = r.same ∙ rw (first_field, g ∙ new_tag (field_at line at e) seen r.tags r.marked)
 
@@ -56,7 +56,7 @@ module _ (line : Bytes) (at e : ℕ) (h : at < length line) (f : e ≡ at + 1 + 
           same = decides ∙ rw (d, add-one number);
         }
 
-    pub next_field : (t ≡ false → strict_fields 1 [] (fields_after line end) ≡ Faulty number)
+    pub next_field : (t ≡ false → strict_fields 1 [] (fields_after line end) ≡ Err number)
         × (t ≡ true → (seen' : Bytes) → seen' ≡ cond t (set seen (field_place (field_at line at e)) 1) seen → Reading line end seen' e (number + 1))
     next_field = (λ d. decides ∙ rw d, goes_on)
 
@@ -69,7 +69,7 @@ module _ (line : Bytes) (end : ℕ) (seen : Bytes) where
     same = refl;
   }
 
-  pub read_all : (at number : ℕ) → length line ≤ at → Reading line end seen at number → strict_fields 1 [] (fields_after line end) ≡ Fine
+  pub read_all : (at number : ℕ) → length line ≤ at → Reading line end seen at number → strict_fields 1 [] (fields_after line end) ≡ Ok tt
   unfolding strict_fields
   read_all at number h r = r.same ∙ rw (le-ltb at (length line) h)
 
@@ -79,7 +79,7 @@ module _ (line : Bytes) (end : ℕ) (f : end ≡ 0 + index_of 9 (drop 0 line)) w
   first_within = rw f (index_within 9 line 0 (omega arith))
 
   pub strict_fields_lem : (t : Bool) → t ≡ same_bytes (take end line) (text "H")
-      → strict line ≡ cond t (strict_fields 1 [] (fields_after line end)) (Faulty 0)
+      → strict line ≡ cond t (strict_fields 1 [] (fields_after line end)) (Err 0)
   unfolding strict
   strict_fields_lem t e =
       let k : index_of 9 line ≡ end = omega arith in

@@ -4,7 +4,7 @@ use mathlib.Core.Logic.{inl, inr, ⊎_elim}
 use mathlib.Core.Bool.{Bool, true, false, ◌||◌}
 use mathlib.Core.List.Memᴰ
 use mathlib.Core.List.{List, [], ◌∷◌, map, Memᴰ}
-use mathlib.Core.Option.{Option, some, none}
+use Rattle.std.specs.Prelude.{Option, Some, None}
 use Prim.Native.Nat.{ℕ, ◌+◌, ◌≤◌, ◌<◌}
 use native.Mathlib.Omega.{arith}
 use lib.ListN.{length, take, length-map}
@@ -12,8 +12,8 @@ use lib.Seq.{length-take-le}
 use native.Mathlib.Numerals.{add-one}
 use lib.Dec.{ltb}
 use borrow.Author.Tests.{lt-ltb, le-ltb, eq-eqb, ne_eqb}
-use Rattle.model.specs.declared.Order.{Order}
-use Rattle.model.specs.declared.Order.TheVariants.{Less, Equal, Greater}
+use Rattle.std.specs.declared.cmp.Ordering.{Ordering}
+use Rattle.std.specs.declared.cmp.Ordering.TheVariants.{Less, Equal, Greater}
 use Rattle.model.specs.Bytes.{Bytes, by_order, compare_bytes}
 use Rattle.model.specs.declared.Kind.{Kind}
 use Rattle.model.specs.declared.Kind.TheVariants.{Subgraph, Translation}
@@ -38,25 +38,25 @@ use Rattle.sorted.proofs.PutPair.{insert_at_lower}
 
 -- ------------------------------------------------------------------ the names with an own name
 
-pub names_owned : (o : Option Bytes) (g : GraphName) → names (owned o g) ≡ names_and o (names (owned none g))
-names_owned none g = refl
-names_owned (some n) g =
-    ascending_unique bytes_order (names (owned (some n) g)) (insert compare_bytes n (names (owned none g)))
-    (names_ascending (owned (some n) g))
-    (insert_ascending bytes_order n (names (owned none g)) (names_ascending (owned none g)))
+pub names_owned : (o : Option Bytes) (g : GraphName) → names (owned o g) ≡ names_and o (names (owned None g))
+names_owned None g = refl
+names_owned (Some n) g =
+    ascending_unique bytes_order (names (owned (Some n) g)) (insert compare_bytes n (names (owned None g)))
+    (names_ascending (owned (Some n) g))
+    (insert_ascending bytes_order n (names (owned None g)) (names_ascending (owned None g)))
     (λ x. (there x, back x))
   where
-    there : (x : Bytes) → Memᴰ x (names (owned (some n) g)) → Memᴰ x (insert compare_bytes n (names (owned none g)))
+    there : (x : Bytes) → Memᴰ x (names (owned (Some n) g)) → Memᴰ x (insert compare_bytes n (names (owned None g)))
     there x m =
-        (insert_members bytes_order n (names (owned none g)) x).1
-        (⊎_elim inl (λ (k : Memᴰ x (all_names (owned none g))). inr ((names_members (owned none g) x).1 k))
-        (Memᴰ.cases_cons ((names_members (owned (some n) g) x).0 m)))
+        (insert_members bytes_order n (names (owned None g)) x).1
+        (⊎_elim inl (λ (k : Memᴰ x (all_names (owned None g))). inr ((names_members (owned None g) x).1 k))
+        (Memᴰ.cases_cons ((names_members (owned (Some n) g) x).0 m)))
 
-    back : (x : Bytes) → Memᴰ x (insert compare_bytes n (names (owned none g))) → Memᴰ x (names (owned (some n) g))
+    back : (x : Bytes) → Memᴰ x (insert compare_bytes n (names (owned None g))) → Memᴰ x (names (owned (Some n) g))
     back x m =
-        (names_members (owned (some n) g) x).1
-        (⊎_elim (λ (e : x ≡ n). Memᴰ.head e) (λ (k : Memᴰ x (names (owned none g))). Memᴰ.tail ((names_members (owned none g) x).0 k))
-        ((insert_members bytes_order n (names (owned none g)) x).0 m))
+        (names_members (owned (Some n) g) x).1
+        (⊎_elim (λ (e : x ≡ n). Memᴰ.head e) (λ (k : Memᴰ x (names (owned None g))). Memᴰ.tail ((names_members (owned None g) x).0 k))
+        ((insert_members bytes_order n (names (owned None g)) x).0 m))
 
 -- a long name among the names
 either_swap : (s t u : Bool) → s || (t || u) ≡ t || (s || u)
@@ -74,7 +74,7 @@ unfolding insert
 any_insert n [] = refl
 any_insert n (m ∷ ms) = go (compare_bytes n m) refl (any_insert n ms)
   where
-    go : (o : Order) → compare_bytes n m ≡ o → any_long (insert compare_bytes n ms) ≡ ltb max_name_bytes (length n) || any_long ms
+    go : (o : Ordering) → compare_bytes n m ≡ o → any_long (insert compare_bytes n ms) ≡ ltb max_name_bytes (length n) || any_long ms
         → any_long (by_order o (n ∷ m ∷ ms) (m ∷ ms) (m ∷ insert compare_bytes n ms)) ≡ ltb max_name_bytes (length n) || (ltb max_name_bytes (length m) || any_long ms)
     go Less e h = refl
     go Equal e h = rw (bytes_order.same n m e) (sym (either_same (ltb max_name_bytes (length m)) (any_long ms)))
@@ -85,7 +85,7 @@ any_insert n (m ∷ ms) = go (compare_bytes n m) refl (any_insert n ms)
 pub length_shown : (ns : List Bytes) (k : ℕ) (xs : List ℕ) → k ≤ length xs → length (map (pair_in ns) (pairs_in k xs)) ≡ k
 length_shown ns k xs h = length-map (pairs_in k xs) (pair_in ns) ∙ length-map (take k xs) places_of ∙ length-take-le k xs h
 
-pub judge_tables : (t : Tables) (o : Option Bytes) → Good none t
+pub judge_tables : (t : Tables) (o : Option Bytes) → Good None t
     → judge (owned o (graph_in t)) ≡ size_fault (names_and o (table_names t)) t.sizes.subgraph t.sizes.translation
 unfolding judge count_fault
 judge_tables t o g =
@@ -223,31 +223,31 @@ good_put own kind t u from to g put =
     }
 
 -- tables whose names are all used are complete with no own name, and with one that was put in
-pub complete_without : (t : Tables) → Good none t → Complete t 0
+pub complete_without : (t : Tables) → Good None t → Complete t 0
 complete_without t g = record { kept = g.kept; own_within = omega arith; used = g.used }
 
 module _ (t u : Tables) (own : Bytes) (p : ℕ) (put : NamePut t own u p) where
   at_place : (p < length (table_names u)) × (name_in (table_names u) p ≡ own)
   at_place = rw (put.names, put.place) (insert_at_lower bytes_order [] own (table_names t))
 
-  pub meaning_own : meaning (read_out u (p + 1)) ≡ owned (some own) (graph_in t)
-  meaning_own = rw (add-one p, at_place.1) (ap (owned (some own)) put.graph)
+  pub meaning_own : meaning (read_out u (p + 1)) ≡ owned (Some own) (graph_in t)
+  meaning_own = rw (add-one p, at_place.1) (ap (owned (Some own)) put.graph)
 
-  pub complete_own : Good none t → Complete u (p + 1)
+  pub complete_own : Good None t → Complete u (p + 1)
   complete_own good =
       let n = length_names u.pool u.sizes.names u.refs put.kept.count in
       record {
         kept = put.kept;
         own_within = omega (arith, at_place.0);
-        used = ap names meaning_own ∙ names_owned (some own) (graph_in t) ∙ ap (insert compare_bytes own) good.used ∙ sym put.names;
+        used = ap names meaning_own ∙ names_owned (Some own) (graph_in t) ∙ ap (insert compare_bytes own) good.used ∙ sym put.names;
       }
 
 -- so are tables among whose names the own name is
-module _ (t : Tables) (own : Bytes) (p : ℕ) (good : Good (some own) t) (place : p ≡ lower compare_bytes own (table_names t)) where
+module _ (t : Tables) (own : Bytes) (p : ℕ) (good : Good (Some own) t) (place : p ≡ lower compare_bytes own (table_names t)) where
   there : insert compare_bytes own (table_names t) ≡ table_names t
   there =
       insert_present bytes_order own (table_names t) good.kept.order
-      (rw good.used at (own_listed (owned (some own) (graph_in t)) own (Memᴰ.head refl)))
+      (rw good.used at (own_listed (owned (Some own) (graph_in t)) own (Memᴰ.head refl)))
 
   placed : (p < length (table_names t)) × (name_in (table_names t) p ≡ own)
   placed =
@@ -255,7 +255,7 @@ module _ (t : Tables) (own : Bytes) (p : ℕ) (good : Good (some own) t) (place 
       (subst (λ (ns : List Bytes). (lower compare_bytes own (table_names t) < length ns) × (name_in ns (lower compare_bytes own (table_names t)) ≡ own)) there
       (insert_at_lower bytes_order [] own (table_names t)))
 
-  pub meaning_placed : meaning (read_out t (p + 1)) ≡ owned (some own) (graph_in t)
+  pub meaning_placed : meaning (read_out t (p + 1)) ≡ owned (Some own) (graph_in t)
   meaning_placed = rw (add-one p, placed.1)
 
   pub complete_placed : Complete t (p + 1)

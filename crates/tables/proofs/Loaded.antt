@@ -4,7 +4,7 @@ use mathlib.Core.Logic.{⊎_elim}
 use mathlib.Core.Bool.{true}
 use mathlib.Core.List.Memᴰ
 use mathlib.Core.List.{List, [], ◌∷◌, ◌++◌, map, map-append, map-map, Memᴰ, append_assoc}
-use mathlib.Core.Option.{none}
+use Rattle.std.specs.Prelude.{None}
 use Prim.Native.Nat.{ℕ, zero, suc, ◌+◌, ◌-◌, ◌*◌, ◌/◌, ◌%◌, ◌≤◌, ◌<◌}
 use native.Mathlib.Omega.{arith}
 use native.Mathlib.Nat.{zero-add}
@@ -178,10 +178,10 @@ module _ (b : Bytes) (v : is_some (decode b) ≡ true) where
     table_translations : pairs_in (length (shown b).translation) trans ≡ translation_of b
     table_translations = rw (pairs_counted b v Translation) translations
 
-    graph : graph_in u ≡ owned none (shown b)
+    graph : graph_in u ≡ owned None (shown b)
     graph =
-        (λ i. record { name = none; subgraph = map (pair_in (table_names_lem i)) (table_subgraphs i); translation = map (pair_in (table_names_lem i)) (table_translations i) })
-        ∙ sym (ap (owned none) (shown_meaning b held))
+        (λ i. record { name = None; subgraph = map (pair_in (table_names_lem i)) (table_subgraphs i); translation = map (pair_in (table_names_lem i)) (table_translations i) })
+        ∙ sym (ap (owned None) (shown_meaning b held))
 
     pub loaded : Loaded (shown b) u
     loaded = record {

@@ -1,7 +1,7 @@
 -- What is known of a buffer that decodes: what holds in it, its sizes, its names and how many pairs it has.
 use mathlib.Core.Path.{◌≡◌, refl, sym, ap, ◌∙◌}
 use mathlib.Core.Bool.{true, false≢true}
-use mathlib.Core.Option.{Option, some, none}
+use Rattle.std.specs.Prelude.{Option, Some, None}
 use Prim.Native.Nat.{ℕ, zero, suc, ◌+◌, ◌-◌, ◌*◌, ◌≤◌, ◌<◌}
 use native.Mathlib.Omega.{arith}
 use lib.Dec.{lit≤}
@@ -23,12 +23,12 @@ use Rattle.record.proofs.Access.{name_within, record_names, record_count, record
 use Rattle.record.proofs.Sizes.{Sizes, judge_sizes}
 
 module _ (b : Bytes) (v : is_some (decode b) ≡ true) where
-  pub decodes : decode b ≡ some (shown b)
+  pub decodes : decode b ≡ Some (shown b)
   decodes = go (decode b) refl v
     where
-      go : (o : Option GraphName) → decode b ≡ o → is_some o ≡ true → decode b ≡ some (shown b)
-      go none e t = absurd (false≢true t)
-      go (some g) e t = e ∙ ap some (sym (decode_shown b g e))
+      go : (o : Option GraphName) → decode b ≡ o → is_some o ≡ true → decode b ≡ Some (shown b)
+      go None e t = absurd (false≢true t)
+      go (Some g) e t = e ∙ ap Some (sym (decode_shown b g e))
 
   pub is_held : Held b
   is_held = decode_held b (shown b) decodes

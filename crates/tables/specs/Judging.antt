@@ -1,6 +1,5 @@
 -- The sizes that tables are judged by, with an own name kept apart; and what can be stored.
-use Rattle.std.specs.Prelude.{◌≡◌, Bool, true, false, cond, ◌||◌, List, ℕ, ◌≤◌, length, ltb}
-use Rattle.std.proofs.Math.Option.{Option, some, none}
+use Rattle.std.specs.Prelude.{◌≡◌, Bool, true, false, cond, ◌||◌, List, ℕ, ◌≤◌, length, ltb, Option, Some, None}
 use Rattle.model.specs.Bytes.{Bytes, compare_bytes}
 use Rattle.model.specs.Record.{GraphName, insert, names, any_long, bodies, max_names, max_pairs, max_bodies_bytes}
 use Rattle.model.specs.Outcome.{Outcome}
@@ -15,13 +14,13 @@ owned name g = record { name = name; subgraph = g.subgraph; translation = g.tran
 
 -- an own name, if there is one
 abbrev pub own_if : Bool → Bytes → Option Bytes
-own_if false own = none
-own_if true own = some own
+own_if false own = None
+own_if true own = Some own
 
 -- the names, with an own name among them
 abbrev pub names_and : Option Bytes → List Bytes → List Bytes
-names_and none ns = ns
-names_and (some n) ns = insert compare_bytes n ns
+names_and None ns = ns
+names_and (Some n) ns = insert compare_bytes n ns
 
 -- the numbers 12 to 14 of docs/FORMAT.md, in their order, or 0
 unfoldable pub count_fault : ℕ → ℕ → ℕ → ℕ → ℕ

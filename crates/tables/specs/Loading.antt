@@ -1,6 +1,5 @@
 -- A record copied into tables: where its entries and pairs stand, how much of the tables it takes, and what they show then.
-use Rattle.std.specs.Prelude.{◌≡◌, List, ℕ, ◌≤◌, ◌<◌, length, drop}
-use Rattle.std.proofs.Math.Option.{none}
+use Rattle.std.specs.Prelude.{◌≡◌, List, ℕ, ◌≤◌, ◌<◌, length, drop, None}
 use Rattle.model.specs.Bytes.{Bytes}
 use Rattle.model.specs.declared.Kind.{Kind}
 use Rattle.model.specs.Record.{GraphName, names, bodies}
@@ -35,5 +34,5 @@ pub record TableRoom (s : Sizes) (refs subs trans : List ℕ) (pool : Bytes) : T
 -- u are tables with all names and pairs of a graph name, and nothing else
 pub record Loaded (g : GraphName) (u : Tables) : Type 0 where
   pub good : Good g.name u
-  pub graph : graph_in u ≡ owned none g
+  pub graph : graph_in u ≡ owned None g
   pub sizes : u.sizes ≡ sizes_of g

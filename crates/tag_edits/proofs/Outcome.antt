@@ -3,14 +3,15 @@ use mathlib.Core.Path.{◌≡◌, refl, ap, ◌∙◌}
 use mathlib.Core.Bool.{Bool, true, false, cond}
 use mathlib.Core.Logic.{◌≢◌}
 use mathlib.Core.List.{List, [], ◌∷◌}
-use mathlib.Core.Option.{Option, some, none}
+use Rattle.std.specs.Prelude.{Option, Some, None, Ok, Err, slice_get}
 use Prim.Native.Nat.{ℕ, zero, suc, ◌≤◌}
 use native.Mathlib.Omega.{arith}
-use lib.ListN.{length, get_elem?}
+use lib.ListN.{length}
 use lib.Dec.{leb}
+use Rattle.model.specs.declared.fault.Fault.TheVariants.{BadKey, LongValue, TagsFull}
 use borrow.Author.Tests.{leb-true, le-leb}
 use Rattle.model.specs.Bytes.{Bytes, same_bytes}
-use Rattle.model.specs.Opening.{Given, refuses, gives, and_then, or_refuse, number_of}
+use Rattle.model.specs.Opening.{Given, and_then, or_refuse, number_of}
 use Rattle.model.specs.Questions.{mapped}
 use Rattle.model.specs.TagList.{Tag, look_up, max_tags, lower, fine_key, stored_key, all_stored, encode_tags, decode_tags}
 use Rattle.model.specs.TagOutcome.{tag_list, ready_key, with_key, parts_of, behind, parts_at, parts_with, value_part, value_in, judged_tags}
@@ -26,29 +27,29 @@ differ j k f e = let z : ◌≡◌ {A = ℕ} 0 1 = cc ((same_bytes_true j k).1 e
 
 -- ------------------------------------------------------------------ the list and the key
 
-pub tag_list_gives : (b : Bytes) (ts : List Tag) → decode_tags b ≡ some ts → tag_list b ≡ gives ts
+pub tag_list_gives : (b : Bytes) (ts : List Tag) → decode_tags b ≡ Some ts → tag_list b ≡ Ok ts
 unfolding tag_list
 tag_list_gives b ts d = rw d
 
 pub list_accepted : {A : Type 0} (b : Bytes) (f : List Tag → Given A) → number_of (and_then (tag_list b) f) ≡ 0
-    → (ts : List Tag) × (decode_tags b ≡ some ts) × (number_of (f ts) ≡ 0)
+    → (ts : List Tag) × (decode_tags b ≡ Some ts) × (number_of (f ts) ≡ 0)
 unfolding tag_list
 list_accepted b f z = go (decode_tags b) refl z
   where
     go : (o : Option (List Tag)) → decode_tags b ≡ o → number_of (and_then (or_refuse 29 o) f) ≡ 0
-        → (ts : List Tag) × (decode_tags b ≡ some ts) × (number_of (f ts) ≡ 0)
-    go none d z = absurd (omega arith)
-    go (some ts) d z = (ts, d, z)
+        → (ts : List Tag) × (decode_tags b ≡ Some ts) × (number_of (f ts) ≡ 0)
+    go None d z = absurd (omega arith)
+    go (Some ts) d z = (ts, d, z)
 
 module _ {A : Type 0} (b key : Bytes) (f : List Tag → Bytes → Given A) where
-  pub with_key_gives : (ts : List Tag) → decode_tags b ≡ some ts → fine_key key ≡ true → with_key b key f ≡ f ts (lower key)
+  pub with_key_gives : (ts : List Tag) → decode_tags b ≡ Some ts → fine_key key ≡ true → with_key b key f ≡ f ts (lower key)
   unfolding tag_list ready_key
   with_key_gives ts d e = rw (d, e)
 
   -- what is not refused has a list and a key
   pub record Accepted : Type 0 where
     pub tags : List Tag
-    pub decoded : decode_tags b ≡ some tags
+    pub decoded : decode_tags b ≡ Some tags
     pub fine : fine_key key ≡ true
     pub zero : number_of (f tags (lower key)) ≡ 0
 
@@ -57,13 +58,13 @@ module _ {A : Type 0} (b key : Bytes) (f : List Tag → Bytes → Given A) where
   with_key_accepted z = go (decode_tags b) refl (fine_key key) refl z
     where
       go : (o : Option (List Tag)) → decode_tags b ≡ o → (t : Bool) → fine_key key ≡ t
-          → number_of (and_then (or_refuse 29 o) λ ts. and_then (cond t (gives (lower key)) (refuses 19)) λ k. f ts k) ≡ 0 → Accepted
-      go none d t e z = absurd (omega arith)
-      go (some ts) d false e z = absurd (omega arith)
-      go (some ts) d true e z = record { tags = ts; decoded = d; fine = e; zero = z }
+          → number_of (and_then (or_refuse 29 o) λ ts. and_then (cond t (Ok (lower key)) (Err BadKey)) λ k. f ts k) ≡ 0 → Accepted
+      go None d t e z = absurd (omega arith)
+      go (Some ts) d false e z = absurd (omega arith)
+      go (Some ts) d true e z = record { tags = ts; decoded = d; fine = e; zero = z }
 
 module _ (short : Bool) (ts : List Tag) where
-  pub judged_gives : short ≡ true → length ts ≤ max_tags → judged_tags short ts ≡ gives ts
+  pub judged_gives : short ≡ true → length ts ≤ max_tags → judged_tags short ts ≡ Ok ts
   unfolding judged_tags
   judged_gives s few = rw (s, le-leb (length ts) max_tags few)
 
@@ -71,7 +72,7 @@ module _ (short : Bool) (ts : List Tag) where
   unfolding judged_tags
   judged_accepted z = go short refl (leb (length ts) max_tags) refl z
     where
-      go : (s : Bool) → short ≡ s → (t : Bool) → leb (length ts) max_tags ≡ t → number_of (cond s (cond t (gives ts) (refuses 21)) (refuses 20)) ≡ 0
+      go : (s : Bool) → short ≡ s → (t : Bool) → leb (length ts) max_tags ≡ t → number_of (cond s (cond t (Ok ts) (Err TagsFull)) (Err LongValue)) ≡ 0
           → (short ≡ true) × (length ts ≤ max_tags)
       go true e true f z = (e, leb-true (length ts) max_tags f)
       go true e false f z = absurd (omega arith)
@@ -79,24 +80,24 @@ module _ (short : Bool) (ts : List Tag) where
 
 -- ------------------------------------------------------------------ a key's value
 
-pub value_decoded : (b : Bytes) (ts : List Tag) (j : Bytes) → decode_tags b ≡ some ts → fine_key j ≡ true → value_in b j ≡ gives (look_up (lower j) ts)
+pub value_decoded : (b : Bytes) (ts : List Tag) (j : Bytes) → decode_tags b ≡ Some ts → fine_key j ≡ true → value_in b j ≡ Ok (look_up (lower j) ts)
 unfolding value_in
-value_decoded b ts j d e = with_key_gives b j (λ us k. gives (look_up k us)) ts d e
+value_decoded b ts j d e = with_key_gives b j (λ us k. Ok (look_up k us)) ts d e
 
-pub value_encoded : (ts : List Tag) (j : Bytes) → ValidTags ts → fine_key j ≡ true → value_in (encode_tags ts) j ≡ gives (look_up (lower j) ts)
+pub value_encoded : (ts : List Tag) (j : Bytes) → ValidTags ts → fine_key j ≡ true → value_in (encode_tags ts) j ≡ Ok (look_up (lower j) ts)
 value_encoded ts j v e = value_decoded (encode_tags ts) ts j (tags_encoded ts v) e
 
 -- what a key gives, by whether it is the one that was changed
-pub changed_value : (j k : Bytes) (x y : Option Bytes) (z : Given (Option Bytes)) → (j ≡ k → x ≡ y) → (j ≢ k → gives x ≡ z)
-    → gives x ≡ cond (same_bytes j k) (gives y) z
+pub changed_value : (j k : Bytes) (x y : Option Bytes) (z : Given (Option Bytes)) → (j ≡ k → x ≡ y) → (j ≢ k → Ok x ≡ z)
+    → Ok x ≡ cond (same_bytes j k) (Ok y) z
 changed_value j k x y z f g = go (same_bytes j k) refl
   where
-    go : (t : Bool) → same_bytes j k ≡ t → gives x ≡ cond t (gives y) z
-    go true e = ap gives (f ((same_bytes_true j k).0 e))
+    go : (t : Bool) → same_bytes j k ≡ t → Ok x ≡ cond t (Ok y) z
+    go true e = ap Ok (f ((same_bytes_true j k).0 e))
     go false e = g (differ j k e)
 
 -- a key that no tag can have
-pub look_unstored : (k : Bytes) (ts : List Tag) → stored_key k ≡ false → all_stored ts ≡ true → look_up k ts ≡ none
+pub look_unstored : (k : Bytes) (ts : List Tag) → stored_key k ≡ false → all_stored ts ≡ true → look_up k ts ≡ None
 look_unstored k [] n s = look_none k
 look_unstored k (t ∷ ts) n s =
     let f = stored_first t ts s in
@@ -112,12 +113,12 @@ module _ (b : Bytes) where
     where
       go : (o : Bool) → First b p q t ts
           → mapped (part_in b) (mapped value_part (parts_with (behind q t) k ts)) ≡ look_up k ts
-          → mapped (part_in b) (mapped value_part (cond o (some (parts_of q t)) (parts_with (behind q t) k ts))) ≡ cond o (some t.value) (look_up k ts)
-      go true f r = ap (λ (x : Bytes). some x) f.value
+          → mapped (part_in b) (mapped value_part (cond o (Some (parts_of q t)) (parts_with (behind q t) k ts))) ≡ cond o (Some t.value) (look_up k ts)
+      go true f r = ap (λ (x : Bytes). Some x) f.value
       go false f r = r
 
-  pub parts_listed : (ts : List Tag) (p q i : ℕ) → Stands b p q ts → mapped (tag_within b) (parts_at q ts i) ≡ get_elem? ts i
+  pub parts_listed : (ts : List Tag) (p q i : ℕ) → Stands b p q ts → mapped (tag_within b) (parts_at q ts i) ≡ slice_get ts i
   unfolding parts_at
   parts_listed [] p q i s = refl
-  parts_listed (t ∷ ts) p q zero s = let f = stands_first s in λ j. some (record { key = f.key j; value = f.value j })
+  parts_listed (t ∷ ts) p q zero s = let f = stands_first s in λ j. Some (record { key = f.key j; value = f.value j })
   parts_listed (t ∷ ts) p q (suc i) s = parts_listed ts _ _ i (stands_first s).next

@@ -3,7 +3,7 @@ use mathlib.Core.Path.{◌≡◌, refl, sym, ap, ◌∙◌}
 use mathlib.Core.Logic.{◌⊎◌, inl, inr}
 use mathlib.Core.Bool.{true, false}
 use mathlib.Core.List.{List, [], ◌∷◌, ◌++◌, append_assoc, append-nil, Memᴰ}
-use mathlib.Core.Option.{Option, some, none}
+use Rattle.std.specs.Prelude.{Option, Some, None}
 use Prim.Native.Nat.{ℕ, ◌+◌, ◌*◌, ◌≤◌}
 use native.Mathlib.Omega.{arith}
 use lib.ListN.{length, take, drop, length-append}
@@ -146,11 +146,11 @@ module _ (b : Bytes) (d : is_some (decode_tags b) ≡ true) (k : Bytes) (r : Fou
         go : (at_key.parts.held ≡ []) ⊎ ((w : Bytes) × (at_key.parts.held ≡ tag k w ∷ []))
             → (w : Bytes) × (r.size ≡ length w) × Between b k r (tag k w ∷ [])
         go (inl e) =
-            let f : some r.size ≡ none = rw h at (size_held [] e) in
+            let f : Some r.size ≡ None = rw h at (size_held [] e) in
             let z : ◌≡◌ {A = ℕ} 0 1 = cc in
             absurd (omega arith)
         go (inr (w, e)) =
-            let f : some r.size ≡ some (length w) = rw h at (size_held (tag k w ∷ []) e) in
+            let f : Some r.size ≡ Some (length w) = rw h at (size_held (tag k w ∷ []) e) in
             (w, (cc), between (tag k w ∷ []) e)
 
     none_between : r.held ≡ false → Between b k r []
@@ -159,7 +159,7 @@ module _ (b : Bytes) (d : is_some (decode_tags b) ≡ true) (k : Bytes) (r : Fou
         go : (at_key.parts.held ≡ []) ⊎ ((w : Bytes) × (at_key.parts.held ≡ tag k w ∷ [])) → Between b k r []
         go (inl e) = between [] e
         go (inr (w, e)) =
-            let f : none ≡ some (length w) = rw h at (size_held (tag k w ∷ []) e) in
+            let f : None ≡ Some (length w) = rw h at (size_held (tag k w ∷ []) e) in
             let z : ◌≡◌ {A = ℕ} 0 1 = cc in
             absurd (omega arith)
 

@@ -2,12 +2,12 @@
 use mathlib.Core.Path.{◌≡◌, refl, sym, ap, ◌∙◌}
 use mathlib.Core.Bool.{Bool, true, false, cond}
 use mathlib.Core.List.{List, ◌++◌}
-use mathlib.Core.Option.{Option, some, none}
+use Rattle.std.specs.Prelude.{Option, Some, None, Ok}
 use Prim.Native.Nat.{ℕ, ◌+◌, ◌≤◌}
 use native.Mathlib.Omega.{arith}
 use lib.ListN.{length, length-append}
 use Rattle.model.specs.Bytes.{Bytes}
-use Rattle.model.specs.Opening.{gives, is_some}
+use Rattle.model.specs.Opening.{is_some}
 use Rattle.model.specs.Questions.{mapped}
 use Rattle.model.specs.TagList.{Tag, look_up, lower, fine_key, tags_length, tag_bodies, keys_after, shown_tags, decode_tags}
 use Rattle.model.specs.TagOutcome.{get_in, contains_in, parts_with, value_part}
@@ -43,35 +43,35 @@ module _ (b : Bytes) (d : is_some (decode_tags b) ≡ true) where
     pub found_held : r.held ≡ is_some (look_up k (shown_tags b))
     found_held = go r.held r.size (look_up k (shown_tags b)) found_size
       where
-        go : (h : Bool) (n : ℕ) (o : Option Bytes) → cond h (some n) none ≡ mapped length o → h ≡ is_some o
-        go true n none e = cc
-        go true n (some v) e = refl
-        go false n none e = refl
-        go false n (some v) e = cc
+        go : (h : Bool) (n : ℕ) (o : Option Bytes) → cond h (Some n) None ≡ mapped length o → h ≡ is_some o
+        go true n None e = cc
+        go true n (Some v) e = refl
+        go false n None e = refl
+        go false n (Some v) e = cc
 
   module _ (key : Bytes) (f : fine_key key ≡ true) (r : Found) (s : IsSpot r (spot_in (lower key) b)) where
-    pub contains_found : gives r.held ≡ contains_in b key
+    pub contains_found : Ok r.held ≡ contains_in b key
     unfolding contains_in
-    contains_found = ap gives (found_held (lower key) r s) ∙ sym (with_ready b key (λ ts k. gives (is_some (look_up k ts))) d f)
+    contains_found = ap Ok (found_held (lower key) r s) ∙ sym (with_ready b key (λ ts k. Ok (is_some (look_up k ts))) d f)
 
     -- the value's part, where the key is held
-    got : gives (mapped (λ (n : ℕ). record { start = r.start + length key; size = n }) (held_size r)) ≡ get_in b key
+    got : Ok (mapped (λ (n : ℕ). record { start = r.start + length key; size = n }) (held_size r)) ≡ get_in b key
     unfolding get_in
     got =
         let ts = shown_tags b in
         let q = keys_after (length ts) in
         let e = spot_parts (lower key) 0 q ts (holds b d).valid.order in
         rw (s.size, parts (spot_in (lower key) b).size)
-        (sym (with_ready b key (λ ts k. gives (mapped value_part (parts_with (keys_after (length ts)) k ts))) d f ∙ rw e))
+        (sym (with_ready b key (λ ts k. Ok (mapped value_part (parts_with (keys_after (length ts)) k ts))) d f ∙ rw e))
       where
         parts : (o : Option ℕ)
             → mapped (λ (n : ℕ). record { start = r.start + length key; size = n }) o
             ≡ mapped value_part (mapped (λ (n : ℕ). parts_from (lower key) (spot_in (lower key) b).start n) o)
-        parts none = refl
-        parts (some n) = rw (s.start, length_lower key)
+        parts None = refl
+        parts (Some n) = rw (s.start, length_lower key)
 
-    pub get_absent : r.held ≡ false → gives none ≡ get_in b key
+    pub get_absent : r.held ≡ false → Ok None ≡ get_in b key
     get_absent h = rw h at got
 
-    pub get_found : r.held ≡ true → gives (some (record { start = r.start + length key; size = r.size })) ≡ get_in b key
+    pub get_found : r.held ≡ true → Ok (Some (record { start = r.start + length key; size = r.size })) ≡ get_in b key
     get_found h = rw h at got

@@ -2,7 +2,7 @@
 use mathlib.Core.Path.{◌≡◌, refl, sym, ap, ap₂, ◌∙◌}
 use mathlib.Core.Bool.{Bool, true, false, cond, ◌&&◌, false≢true}
 use mathlib.Core.List.{List, [], ◌∷◌, ◌++◌}
-use mathlib.Core.Option.{Option, some, none}
+use Rattle.std.specs.Prelude.{Option, Some, None}
 use Prim.Native.Nat.{ℕ, suc, ◌+◌}
 use native.Mathlib.Omega.{arith}
 use lib.ListN.{length, take, drop}
@@ -49,7 +49,7 @@ shown_encoded ts v =
 
 -- ------------------------------------------------------------------ decoding
 
-pub decode_some : (b : Bytes) (ts : List Tag) → shown_tags b ≡ ts → ValidTags ts → encode_tags ts ≡ b → decode_tags b ≡ some ts
+pub decode_some : (b : Bytes) (ts : List Tag) → shown_tags b ≡ ts → ValidTags ts → encode_tags ts ≡ b → decode_tags b ≡ Some ts
 unfolding decode_tags
 decode_some b ts s v e = rw (s, (valid_true ts).1 v, e, same_bytes_refl b)
 
@@ -57,16 +57,16 @@ pub tags_encoded : TagsEncoded
 tags_encoded ts v = decode_some (encode_tags ts) ts (shown_encoded ts v) v refl
 
 -- what decodes passes both tests, and is what is shown
-decode_passes : (b : Bytes) (ts : List Tag) → decode_tags b ≡ some ts
+decode_passes : (b : Bytes) (ts : List Tag) → decode_tags b ≡ Some ts
     → (is_tag_list (shown_tags b) && same_bytes (encode_tags (shown_tags b)) b ≡ true) × (shown_tags b ≡ ts)
 unfolding decode_tags
 decode_passes b ts e = go (is_tag_list (shown_tags b) && same_bytes (encode_tags (shown_tags b)) b) e
   where
-    go : (t : Bool) → cond t (some (shown_tags b)) none ≡ some ts → (t ≡ true) × (shown_tags b ≡ ts)
+    go : (t : Bool) → cond t (Some (shown_tags b)) None ≡ Some ts → (t ≡ true) × (shown_tags b ≡ ts)
     go true e = (refl, cc)
     go false e = let z : ◌≡◌ {A = ℕ} 0 1 = cc in absurd (omega arith)
 
-pub decode_shown : (b : Bytes) (ts : List Tag) → decode_tags b ≡ some ts → shown_tags b ≡ ts
+pub decode_shown : (b : Bytes) (ts : List Tag) → decode_tags b ≡ Some ts → shown_tags b ≡ ts
 decode_shown b ts e = (decode_passes b ts e).1
 
 pub tags_decoded : TagsDecoded
@@ -75,23 +75,23 @@ tags_decoded b ts e =
     let p = both_true (is_tag_list (shown_tags b)) (same_bytes (encode_tags (shown_tags b)) b) t in
     (rw s at ((valid_true (shown_tags b)).0 p.0), sym (rw s at ((same_bytes_true (encode_tags (shown_tags b)) b).0 p.1)))
 
-pub decode_is : (b : Bytes) → is_some (decode_tags b) ≡ true → decode_tags b ≡ some (shown_tags b)
+pub decode_is : (b : Bytes) → is_some (decode_tags b) ≡ true → decode_tags b ≡ Some (shown_tags b)
 decode_is b t = go (decode_tags b) refl t
   where
-    go : (o : Option (List Tag)) → decode_tags b ≡ o → is_some o ≡ true → decode_tags b ≡ some (shown_tags b)
-    go none e t = absurd (false≢true t)
-    go (some ts) e t = e ∙ ap (λ (us : List Tag). some us) (sym (decode_shown b ts e))
+    go : (o : Option (List Tag)) → decode_tags b ≡ o → is_some o ≡ true → decode_tags b ≡ Some (shown_tags b)
+    go None e t = absurd (false≢true t)
+    go (Some ts) e t = e ∙ ap (λ (us : List Tag). Some us) (sym (decode_shown b ts e))
 
-pub decode_not : (b : Bytes) → is_some (decode_tags b) ≡ false → decode_tags b ≡ none
+pub decode_not : (b : Bytes) → is_some (decode_tags b) ≡ false → decode_tags b ≡ None
 decode_not b t = go (decode_tags b) t
   where
-    go : (o : Option (List Tag)) → is_some o ≡ false → o ≡ none
-    go none t = refl
-    go (some ts) t = absurd (false≢true (sym t))
+    go : (o : Option (List Tag)) → is_some o ≡ false → o ≡ None
+    go None t = refl
+    go (Some ts) t = absurd (false≢true (sym t))
 
 -- ------------------------------------------------------------------ a block that is a tag list
 
-module _ (b : Bytes) (ts : List Tag) (d : decode_tags b ≡ some ts) where
+module _ (b : Bytes) (ts : List Tag) (d : decode_tags b ≡ Some ts) where
   pub decoded_valid : ValidTags ts
   decoded_valid = (tags_decoded b ts d).0
 

@@ -4,8 +4,8 @@ use mathlib.Core.Path.{◌≡◌, refl, sym, ◌∙◌}
 use mathlib.Core.Logic.{⊎_elim, ◌≢◌}
 use mathlib.Core.List.Memᴰ
 use mathlib.Core.List.{List, [], ◌∷◌, Memᴰ}
-use mathlib.Core.Option.{some, none}
-use Rattle.model.specs.declared.Order.TheVariants.{Less, Equal, Greater}
+use Rattle.std.specs.Prelude.{Some, None}
+use Rattle.std.specs.declared.cmp.Ordering.TheVariants.{Less, Equal, Greater}
 use Rattle.model.specs.Bytes.{Bytes, compare_bytes}
 use Rattle.model.specs.Statements.{Ascending}
 use Rattle.model.specs.TagList.{Tag, compare_tags, look_up}
@@ -42,11 +42,11 @@ first_below t (u ∷ us) a = key_below_cons t.key u us a.0 (first_below u us a.1
 
 -- ------------------------------------------------------------------ looking up
 
-pub look_none : (k : Bytes) → look_up k [] ≡ none
+pub look_none : (k : Bytes) → look_up k [] ≡ None
 unfolding look_up
 look_none k = refl
 
-pub look_first : (k : Bytes) (t : Tag) (ts : List Tag) → k ≡ t.key → look_up k (t ∷ ts) ≡ some t.value
+pub look_first : (k : Bytes) (t : Tag) (ts : List Tag) → k ≡ t.key → look_up k (t ∷ ts) ≡ Some t.value
 unfolding look_up
 look_first k t ts e = rw ((same_bytes_true k t.key).1 e)
 
@@ -58,14 +58,14 @@ pub look_further : (k : Bytes) (t : Tag) (ts us : List Tag) → look_up k ts ≡
 unfolding look_up
 look_further k t ts us e = rw e
 
-pub look_below : (k : Bytes) (ts : List Tag) → KeyBelow k ts → look_up k ts ≡ none
+pub look_below : (k : Bytes) (ts : List Tag) → KeyBelow k ts → look_up k ts ≡ None
 look_below k [] b = look_none k
 look_below k (t ∷ ts) b =
     look_past k t ts (less_differs k t.key (b t (Memᴰ.head refl))) ∙ look_below k ts (λ u m. b u (Memᴰ.tail m))
 
 -- a key at or below the first of an ascending list is not among the others
-pub look_behind : (k : Bytes) (t : Tag) (ts : List Tag) → Ascending compare_tags (t ∷ ts) → k ≡ t.key → look_up k ts ≡ none
+pub look_behind : (k : Bytes) (t : Tag) (ts : List Tag) → Ascending compare_tags (t ∷ ts) → k ≡ t.key → look_up k ts ≡ None
 look_behind k t ts a e = look_below k ts (rw e (first_below t ts a))
 
-pub look_before : (k : Bytes) (t : Tag) (ts : List Tag) → Ascending compare_tags (t ∷ ts) → compare_bytes k t.key ≡ Less → look_up k (t ∷ ts) ≡ none
+pub look_before : (k : Bytes) (t : Tag) (ts : List Tag) → Ascending compare_tags (t ∷ ts) → compare_bytes k t.key ≡ Less → look_up k (t ∷ ts) ≡ None
 look_before k t ts a e = look_below k (t ∷ ts) (key_below_cons k t ts e (first_below t ts a))

@@ -5,11 +5,11 @@ use mathlib.Core.Logic.{◌⊎◌, inl, inr, ⊎_elim, ◌≢◌}
 use mathlib.Core.Bool.{Bool, true, false}
 use mathlib.Core.List.Memᴰ
 use mathlib.Core.List.{List, [], ◌∷◌, Memᴰ}
-use mathlib.Core.Option.{some, none}
+use Rattle.std.specs.Prelude.{Some, None}
 use Prim.Native.Nat.{ℕ}
 use native.Mathlib.Omega.{arith}
-use Rattle.model.specs.declared.Order.{Order}
-use Rattle.model.specs.declared.Order.TheVariants.{Less, Equal, Greater}
+use Rattle.std.specs.declared.cmp.Ordering.{Ordering}
+use Rattle.std.specs.declared.cmp.Ordering.TheVariants.{Less, Equal, Greater}
 use Rattle.model.specs.Bytes.{Bytes, by_order, compare_bytes, same_bytes}
 use Rattle.model.specs.Statements.{Ascending}
 use Rattle.model.specs.TagList.{Tag, tag, compare_tags, look_up, set_tag, remove_tag}
@@ -20,13 +20,13 @@ use Rattle.tag_list.proofs.Keys.{greater_differs, same_key, first_below, look_no
 
 -- ------------------------------------------------------------------ setting
 
-pub set_same : (k v : Bytes) (ts : List Tag) → look_up k (set_tag k v ts) ≡ some v
+pub set_same : (k v : Bytes) (ts : List Tag) → look_up k (set_tag k v ts) ≡ Some v
 unfolding set_tag
 set_same k v [] = look_first k (tag k v) [] refl
 set_same k v (t ∷ ts) = go (compare_bytes k t.key) refl (set_same k v ts)
   where
-    go : (o : Order) → compare_bytes k t.key ≡ o → look_up k (set_tag k v ts) ≡ some v
-        → look_up k (by_order o (tag k v ∷ t ∷ ts) (tag k v ∷ ts) (t ∷ set_tag k v ts)) ≡ some v
+    go : (o : Ordering) → compare_bytes k t.key ≡ o → look_up k (set_tag k v ts) ≡ Some v
+        → look_up k (by_order o (tag k v ∷ t ∷ ts) (tag k v ∷ ts) (t ∷ set_tag k v ts)) ≡ Some v
     go Less e r = look_first k (tag k v) (t ∷ ts) refl
     go Equal e r = look_first k (tag k v) ts refl
     go Greater e r = look_past k t (set_tag k v ts) (greater_differs k t.key e) ∙ r
@@ -36,7 +36,7 @@ unfolding set_tag
 set_other j k v [] n = look_past j (tag k v) [] n
 set_other j k v (t ∷ ts) n = go (compare_bytes k t.key) refl (set_other j k v ts n)
   where
-    go : (o : Order) → compare_bytes k t.key ≡ o → look_up j (set_tag k v ts) ≡ look_up j ts
+    go : (o : Ordering) → compare_bytes k t.key ≡ o → look_up j (set_tag k v ts) ≡ look_up j ts
         → look_up j (by_order o (tag k v ∷ t ∷ ts) (tag k v ∷ ts) (t ∷ set_tag k v ts)) ≡ look_up j (t ∷ ts)
     go Less e r = look_past j (tag k v) (t ∷ ts) n
     go Equal e r = look_past j (tag k v) ts n ∙ sym (look_past j t ts (λ d. n (d ∙ sym (same_key k t.key e))))
@@ -51,7 +51,7 @@ set_member k v (t ∷ ts) u m = go (compare_bytes k t.key) (set_member k v ts u)
     further (inl e) = inl e
     further (inr m) = inr (Memᴰ.tail m)
 
-    go : (o : Order) → (Memᴰ u (set_tag k v ts) → (u ≡ tag k v) ⊎ Memᴰ u ts)
+    go : (o : Ordering) → (Memᴰ u (set_tag k v ts) → (u ≡ tag k v) ⊎ Memᴰ u ts)
         → Memᴰ u (by_order o (tag k v ∷ t ∷ ts) (tag k v ∷ ts) (t ∷ set_tag k v ts)) → (u ≡ tag k v) ⊎ Memᴰ u (t ∷ ts)
     go Less rest m = Memᴰ.cases_cons m
     go Equal rest m = further (Memᴰ.cases_cons m)
@@ -63,7 +63,7 @@ unfolding set_tag
 set_kept k v [] a = unfold Ascending in tt
 set_kept k v (t ∷ ts) a = go (compare_bytes k t.key) refl (set_kept k v ts (ascending_tail compare_tags t ts a))
   where
-    go : (o : Order) → compare_bytes k t.key ≡ o → Ascending compare_tags (set_tag k v ts)
+    go : (o : Ordering) → compare_bytes k t.key ≡ o → Ascending compare_tags (set_tag k v ts)
         → Ascending compare_tags (by_order o (tag k v ∷ t ∷ ts) (tag k v ∷ ts) (t ∷ set_tag k v ts))
     go Less e r = unfold Ascending in (e, a)
     go Equal e r =
@@ -75,13 +75,13 @@ set_kept k v (t ∷ ts) a = go (compare_bytes k t.key) refl (set_kept k v ts (as
 
 -- ------------------------------------------------------------------ removing
 
-pub remove_same : (k : Bytes) (ts : List Tag) → Ascending compare_tags ts → look_up k (remove_tag k ts) ≡ none
+pub remove_same : (k : Bytes) (ts : List Tag) → Ascending compare_tags ts → look_up k (remove_tag k ts) ≡ None
 unfolding remove_tag
 remove_same k [] a = look_none k
 remove_same k (t ∷ ts) a = go (compare_bytes k t.key) refl (remove_same k ts (ascending_tail compare_tags t ts a))
   where
-    go : (o : Order) → compare_bytes k t.key ≡ o → look_up k (remove_tag k ts) ≡ none
-        → look_up k (by_order o (t ∷ ts) ts (t ∷ remove_tag k ts)) ≡ none
+    go : (o : Ordering) → compare_bytes k t.key ≡ o → look_up k (remove_tag k ts) ≡ None
+        → look_up k (by_order o (t ∷ ts) ts (t ∷ remove_tag k ts)) ≡ None
     go Less e r = look_before k t ts a e
     go Equal e r = look_behind k t ts a (same_key k t.key e)
     go Greater e r = look_past k t (remove_tag k ts) (greater_differs k t.key e) ∙ r
@@ -91,7 +91,7 @@ unfolding remove_tag
 remove_other j k [] n = refl
 remove_other j k (t ∷ ts) n = go (compare_bytes k t.key) refl (remove_other j k ts n)
   where
-    go : (o : Order) → compare_bytes k t.key ≡ o → look_up j (remove_tag k ts) ≡ look_up j ts
+    go : (o : Ordering) → compare_bytes k t.key ≡ o → look_up j (remove_tag k ts) ≡ look_up j ts
         → look_up j (by_order o (t ∷ ts) ts (t ∷ remove_tag k ts)) ≡ look_up j (t ∷ ts)
     go Less e r = refl
     go Equal e r = sym (look_past j t ts (λ d. n (d ∙ sym (same_key k t.key e))))
@@ -102,7 +102,7 @@ unfolding remove_tag
 remove_member k [] u m = m
 remove_member k (t ∷ ts) u m = go (compare_bytes k t.key) (remove_member k ts u) m
   where
-    go : (o : Order) → (Memᴰ u (remove_tag k ts) → Memᴰ u ts)
+    go : (o : Ordering) → (Memᴰ u (remove_tag k ts) → Memᴰ u ts)
         → Memᴰ u (by_order o (t ∷ ts) ts (t ∷ remove_tag k ts)) → Memᴰ u (t ∷ ts)
     go Less rest m = m
     go Equal rest m = Memᴰ.tail m
@@ -114,7 +114,7 @@ unfolding remove_tag
 remove_kept k [] a = a
 remove_kept k (t ∷ ts) a = go (compare_bytes k t.key) (remove_kept k ts (ascending_tail compare_tags t ts a))
   where
-    go : (o : Order) → Ascending compare_tags (remove_tag k ts) → Ascending compare_tags (by_order o (t ∷ ts) ts (t ∷ remove_tag k ts))
+    go : (o : Ordering) → Ascending compare_tags (remove_tag k ts) → Ascending compare_tags (by_order o (t ∷ ts) ts (t ∷ remove_tag k ts))
     go Less r = a
     go Equal r = ascending_tail compare_tags t ts a
     go Greater r = ascending_cons compare_tags t (remove_tag k ts) (λ u m. first_below t ts a u (remove_member k ts u m)) r
@@ -144,7 +144,7 @@ same_lists (t ∷ ts) (u ∷ us) a b h =
         let n : k ≢ t.key = λ f. let z : ◌≡◌ {A = ℕ} 0 1 = cc ((same_bytes_true k t.key).1 f) in omega arith in
         sym (look_past k t ts n) ∙ h k ∙ look_past k u us (λ f. n (f ∙ sym e))
 
-    go : (o : Order) → compare_bytes t.key u.key ≡ o → (((k : Bytes) → look_up k ts ≡ look_up k us) → ts ≡ us) → t ∷ ts ≡ u ∷ us
+    go : (o : Ordering) → compare_bytes t.key u.key ≡ o → (((k : Bytes) → look_up k ts ≡ look_up k us) → ts ≡ us) → t ∷ ts ≡ u ∷ us
     go Less e r = absurd (not_before t u ts us b (h t.key) e)
     go Equal e r =
         let d = same_key t.key u.key e in

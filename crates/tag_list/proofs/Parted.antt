@@ -4,12 +4,12 @@ use mathlib.Core.Path.{◌≡◌, refl, sym, ap, ◌∙◌}
 use mathlib.Core.Logic.{◌⊎◌, inl, inr}
 use mathlib.Core.List.Memᴰ
 use mathlib.Core.List.{List, [], ◌∷◌, ◌++◌}
-use mathlib.Core.Option.{Option, some, none}
+use Rattle.std.specs.Prelude.{Option, Some, None}
 use Prim.Native.Nat.{ℕ, ◌+◌}
 use native.Mathlib.Omega.{arith}
 use lib.ListN.{length}
-use Rattle.model.specs.declared.Order.{Order}
-use Rattle.model.specs.declared.Order.TheVariants.{Less, Equal, Greater}
+use Rattle.std.specs.declared.cmp.Ordering.{Ordering}
+use Rattle.std.specs.declared.cmp.Ordering.TheVariants.{Less, Equal, Greater}
 use Rattle.model.specs.Bytes.{Bytes, compare_bytes}
 use Rattle.model.specs.Statements.{Ascending}
 use Rattle.model.specs.Questions.{mapped}
@@ -23,8 +23,8 @@ use Rattle.tag_list.proofs.Bodies.{length_tag_bodies}
 
 -- the value of the one tag that is there, if any
 abbrev pub value_held : List Tag → Option Bytes
-value_held [] = none
-value_held (t ∷ ts) = some t.value
+value_held [] = None
+value_held (t ∷ ts) = Some t.value
 
 pub record Parted (k : Bytes) (ts : List Tag) : Type 0 where
   pub front : List Tag
@@ -53,7 +53,7 @@ parted k i q [] a = record {
 }
 parted k i q (t ∷ ts) a = go (compare_bytes k t.key) refl (parted k (i + 1) (behind q t) ts (ascending_tail compare_tags t ts a))
   where
-    go : (o : Order) → compare_bytes k t.key ≡ o → PartedAt k (i + 1) (behind q t) ts → PartedAt k i q (t ∷ ts)
+    go : (o : Ordering) → compare_bytes k t.key ≡ o → PartedAt k (i + 1) (behind q t) ts → PartedAt k i q (t ∷ ts)
     go Less e r =
         let none_found = look_before k t ts a e in
         record {
@@ -114,7 +114,7 @@ parted k i q (t ∷ ts) a = go (compare_bytes k t.key) refl (parted k (i + 1) (b
 abbrev pub parts_from : Bytes → ℕ → ℕ → TagParts
 parts_from k start n = record { key = record { start = start; size = length k }; value = record { start = start + length k; size = n } }
 
-parts_below : (k : Bytes) (q : ℕ) (ts : List Tag) → KeyBelow k ts → parts_with q k ts ≡ none
+parts_below : (k : Bytes) (q : ℕ) (ts : List Tag) → KeyBelow k ts → parts_with q k ts ≡ None
 unfolding parts_with
 parts_below k q [] b = refl
 parts_below k q (t ∷ ts) b =
@@ -127,7 +127,7 @@ spot_parts k i q [] a = unfold parts_with spot in refl
 spot_parts k i q (t ∷ ts) a =
     go (compare_bytes k t.key) refl (spot_parts k (i + 1) (behind q t) ts (ascending_tail compare_tags t ts a))
   where
-    go : (o : Order) → compare_bytes k t.key ≡ o
+    go : (o : Ordering) → compare_bytes k t.key ≡ o
         → parts_with (behind q t) k ts ≡ mapped (λ (n : ℕ). parts_from k (spot k (i + 1) (behind q t) ts).start n) (spot k (i + 1) (behind q t) ts).size
         → parts_with q k (t ∷ ts) ≡ mapped (λ (n : ℕ). parts_from k (spot k i q (t ∷ ts)).start n) (spot k i q (t ∷ ts)).size
     go Less e r = parts_below k q (t ∷ ts) (key_below_cons k t ts e (first_below t ts a)) ∙ (unfold spot in rw e)

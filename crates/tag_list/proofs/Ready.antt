@@ -2,20 +2,22 @@
 use mathlib.Core.Path.{◌≡◌, refl}
 use mathlib.Core.Bool.{Bool, true, false}
 use mathlib.Core.List.{List}
+use Rattle.std.specs.Prelude.{Ok, Err}
+use Rattle.model.specs.declared.fault.Fault.TheVariants.{NotATagList}
 use native.Mathlib.Omega.{arith}
 use Rattle.model.specs.Bytes.{Bytes}
-use Rattle.model.specs.Opening.{Given, refuses, gives, is_some}
+use Rattle.model.specs.Opening.{Given, is_some}
 use Rattle.model.specs.TagList.{Tag, lower, fine_key, shown_tags, decode_tags}
 use Rattle.model.specs.TagOutcome.{tag_list, ready_key, with_key}
 use Rattle.tag_list.specs.Found.{key_fault}
 use Rattle.tag_list.proofs.Coding.{decode_is, decode_not}
 
 module _ (b : Bytes) where
-  pub list_refused : is_some (decode_tags b) ≡ false → tag_list b ≡ refuses 29
+  pub list_refused : is_some (decode_tags b) ≡ false → tag_list b ≡ Err NotATagList
   unfolding tag_list
   list_refused e = rw (decode_not b e)
 
-  pub list_given : is_some (decode_tags b) ≡ true → tag_list b ≡ gives (shown_tags b)
+  pub list_given : is_some (decode_tags b) ≡ true → tag_list b ≡ Ok (shown_tags b)
   unfolding tag_list
   list_given e = rw (decode_is b e)
 
@@ -40,10 +42,10 @@ module _ (b : Bytes) where
     fault_none d e = rw (list_given d, e)
 
     -- it is the refusal of whatever asks for both
-    pub with_fault : {A : Type 0} (f : List Tag → Bytes → Given A) → (key_fault b key ≡ 0 → ⊥) → with_key b key f ≡ refuses (key_fault b key)
+    pub with_fault : {A : Type 0} (f : List Tag → Bytes → Given A) → (key_fault b key ≡ 0 → ⊥) → with_key b key f ≡ Err (key_fault b key)
     with_fault f n = go (is_some (decode_tags b)) refl (fine_key key) refl
       where
-        go : (s : Bool) → is_some (decode_tags b) ≡ s → (t : Bool) → fine_key key ≡ t → with_key b key f ≡ refuses (key_fault b key)
+        go : (s : Bool) → is_some (decode_tags b) ≡ s → (t : Bool) → fine_key key ≡ t → with_key b key f ≡ Err (key_fault b key)
         go false d t e = rw (fault_list d, list_refused d)
         go true d false e = rw (fault_key d e, list_given d) (unfold ready_key in rw e)
         go true d true e = absurd (n (fault_none d e))

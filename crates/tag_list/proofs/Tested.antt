@@ -2,14 +2,14 @@
 use mathlib.Core.Path.{◌≡◌, refl, sym, ap, ◌∙◌}
 use mathlib.Core.Bool.{true, false≢true}
 use mathlib.Core.List.{List, ◌∷◌, ◌++◌, append_assoc}
-use mathlib.Core.Option.{Option, some, none}
+use Rattle.std.specs.Prelude.{Option, Some, None}
 use Prim.Native.Nat.{ℕ, zero, suc, ◌+◌, ◌*◌, ◌≤◌, ◌<◌}
 use native.Mathlib.Omega.{arith}
 use lib.ListN.{length, get_or, take, drop, replicate, length-append, length-drop, length-replicate, take-append-drop}
 use lib.Seq.{length-take-le, drop-drop, take-add}
 use lib.Dec.{leb, eqb}
 use borrow.Author.Tests.{leb-true, le-leb, le-ltb, eqb-true}
-use Rattle.model.specs.declared.Order.TheVariants.{Less}
+use Rattle.std.specs.declared.cmp.Ordering.TheVariants.{Less}
 use Rattle.model.specs.Bytes.{Bytes, compare_bytes}
 use Rattle.model.specs.Numbers.{le32, number32}
 use Rattle.model.specs.Opening.{is_some}
@@ -153,7 +153,7 @@ module _ (b : Bytes) (a : AllBytes b) where
       ) in
       encoded_parts ts r.zeros lengths ∙ rw r.count (sym whole)
 
-  passed : is_tag_block b ≡ true → decode_tags b ≡ some (shown_tags b)
+  passed : is_tag_block b ≡ true → decode_tags b ≡ Some (shown_tags b)
   unfolding is_tag_block shown_tags
   passed e =
       let n = number32 b 0 in
@@ -169,5 +169,5 @@ pub is_tag_block_lem : (b : Bytes) → ((i : ℕ) → get_or b i 0 < 256) → is
 is_tag_block_lem b a = same_tests (is_tag_block b) (is_some (decode_tags b)) (λ e. rw (passed b a e)) (λ e. go (decode_tags b) refl e)
   where
     go : (o : Option (List Tag)) → decode_tags b ≡ o → is_some o ≡ true → is_tag_block b ≡ true
-    go none d e = absurd (false≢true e)
-    go (some ts) d e = let p = tags_decoded b ts d in rw p.1 (encoded_passes ts p.0)
+    go None d e = absurd (false≢true e)
+    go (Some ts) d e = let p = tags_decoded b ts d in rw p.1 (encoded_passes ts p.0)

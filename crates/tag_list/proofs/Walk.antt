@@ -3,13 +3,13 @@
 use mathlib.Core.Path.{◌≡◌, refl, ap, ◌∙◌}
 use mathlib.Core.Bool.{true}
 use mathlib.Core.List.{List, [], ◌∷◌}
-use mathlib.Core.Option.{Option, some, none}
+use Rattle.std.specs.Prelude.{Option, Some, None}
 use Prim.Native.Nat.{ℕ, suc, ◌+◌, ◌-◌, ◌≤◌, ◌<◌}
 use native.Mathlib.Omega.{arith}
 use native.Mathlib.Numerals.{add-one}
 use lib.ListN.{length, take, drop, get_or, drop_of_length-le}
 use lib.Seq.{drop-cons}
-use Rattle.model.specs.declared.Order.TheVariants.{Less, Equal, Greater}
+use Rattle.std.specs.declared.cmp.Ordering.TheVariants.{Less, Equal, Greater}
 use Rattle.model.specs.Bytes.{Bytes, compare_bytes}
 use Rattle.model.specs.Numbers.{number32}
 use Rattle.model.specs.Opening.{is_some}
@@ -52,9 +52,9 @@ pub record Turn (b : Bytes) (ts : List Tag) (i q : ℕ) : Type 0 where
 
 pub turn : (b : Bytes) (ts : List Tag) (i q : ℕ) → i < length ts → Stands b (keys_after i) q (drop i ts) → Turn b ts i q
 turn b ts i q h s =
-    let none = tag [] [] in
-    let e : drop i ts ≡ get_or ts i none ∷ drop (i + 1) ts = rw add-one (drop-cons ts i none h) in
-    record { this = get_or ts i none; left = e; first = stands_first (rw e at s) }
+    let None = tag [] [] in
+    let e : drop i ts ≡ get_or ts i None ∷ drop (i + 1) ts = rw add-one (drop-cons ts i None h) in
+    record { this = get_or ts i None; left = e; first = stands_first (rw e at s) }
 
 -- where the tags behind it stand, by the sizes that were read
 pub turn_next : {b : Bytes} {ts : List Tag} {i q : ℕ} (t : Turn b ts i q) (k v : ℕ) → k ≡ number32 b (keys_after i) → v ≡ number32 b (keys_after i + 4)
@@ -83,7 +83,7 @@ pub is_spot : {r : Found} {s : Spot} (i q : ℕ) (o : Option ℕ) → s ≡ reco
     → r.place ≡ i → r.start ≡ q → held_size r ≡ o → IsSpot r s
 is_spot i q o e a b c = rw e (record { place = a; start = b; size = c })
 
-pub spot_end : (key : Bytes) (ts : List Tag) (i q : ℕ) → length ts ≤ i → spot key i q (drop i ts) ≡ record { place = i; start = q; size = none }
+pub spot_end : (key : Bytes) (ts : List Tag) (i q : ℕ) → length ts ≤ i → spot key i q (drop i ts) ≡ record { place = i; start = q; size = None }
 unfolding spot
 spot_end key ts i q h = rw (drop_of_length-le ts h)
 
@@ -92,11 +92,11 @@ module _ {b : Bytes} {ts : List Tag} {i q : ℕ} (t : Turn b ts i q) (key : Byte
   read_key : take k (drop q b) ≡ t.this.key
   read_key = let n : k ≡ length t.this.key = d ∙ t.first.key_size in rw n t.first.key
 
-  pub spot_less : compare_bytes key (take k (drop q b)) ≡ Less → spot key i q (drop i ts) ≡ record { place = i; start = q; size = none }
+  pub spot_less : compare_bytes key (take k (drop q b)) ≡ Less → spot key i q (drop i ts) ≡ record { place = i; start = q; size = None }
   unfolding spot
   spot_less o = rw (t.left, ← read_key, o)
 
-  pub spot_equal : compare_bytes key (take k (drop q b)) ≡ Equal → spot key i q (drop i ts) ≡ record { place = i; start = q; size = some v }
+  pub spot_equal : compare_bytes key (take k (drop q b)) ≡ Equal → spot key i q (drop i ts) ≡ record { place = i; start = q; size = Some v }
   unfolding spot
   spot_equal o = let n : v ≡ length t.this.value = e ∙ t.first.value_size in rw (t.left, ← read_key, o, n)
 
@@ -116,7 +116,7 @@ module _ {b : Bytes} {ts : List Tag} {i q : ℕ} (t : Turn b ts i q) (key : Byte
       rw (t.left, s, ← n)
 
   pub parts_here : (place : ℕ) → i ≡ place
-      → parts_at q (drop i ts) (place - i) ≡ some (record { key = record { start = q; size = k }; value = record { start = q + k; size = v } })
+      → parts_at q (drop i ts) (place - i) ≡ Some (record { key = record { start = q; size = k }; value = record { start = q + k; size = v } })
   unfolding parts_at
   parts_here place h =
       let s : place - i ≡ 0 = omega arith in
@@ -124,7 +124,7 @@ module _ {b : Bytes} {ts : List Tag} {i q : ℕ} (t : Turn b ts i q) (key : Byte
       let n : v ≡ length t.this.value = e ∙ t.first.value_size in
       rw (t.left, s, m, n)
 
-pub parts_past : (q : ℕ) (ts : List Tag) (i : ℕ) → length ts ≤ i → parts_at q ts i ≡ none
+pub parts_past : (q : ℕ) (ts : List Tag) (i : ℕ) → length ts ≤ i → parts_at q ts i ≡ None
 unfolding parts_at
 parts_past q [] i h = refl
 parts_past q (t ∷ ts) i h =

@@ -1,6 +1,5 @@
 -- Where a key stands among tags, or would stand.
-use Rattle.std.specs.Prelude.{List, [], ◌∷◌, ℕ, ◌+◌, length}
-use Rattle.std.proofs.Math.Option.{Option, some, none}
+use Rattle.std.specs.Prelude.{List, [], ◌∷◌, ℕ, ◌+◌, length, Option, Some, None}
 use Rattle.model.specs.Bytes.{Bytes, by_order, compare_bytes}
 use Rattle.model.specs.TagList.{Tag}
 use Rattle.model.specs.TagOutcome.{behind}
@@ -13,9 +12,9 @@ pub record Spot : Type 0 where
 
 -- among tags of which the first is at place i, its key at byte q
 unfoldable pub spot : Bytes → ℕ → ℕ → List Tag → Spot
-spot k i q [] = record { place = i; start = q; size = none }
+spot k i q [] = record { place = i; start = q; size = None }
 spot k i q (t ∷ ts) =
     by_order (compare_bytes k t.key)
-    (record { place = i; start = q; size = none })
-    (record { place = i; start = q; size = some (length t.value) })
+    (record { place = i; start = q; size = None })
+    (record { place = i; start = q; size = Some (length t.value) })
     (spot k (i + 1) (behind q t) ts)

@@ -1,12 +1,12 @@
 -- The test of a block, tag by tag, in the order in which it goes. That the whole says what `decode_tags` says is a law.
 use Rattle.std.specs.Prelude.{Bool, true, false, cond, ◌&&◌, ℕ, zero, suc, ◌+◌, length, take, drop, leb, ltb, eqb}
-use Rattle.model.specs.declared.Order.{Order}
+use Rattle.std.specs.declared.cmp.Ordering.{Ordering}
 use Rattle.model.specs.Bytes.{Bytes, by_order, compare_bytes}
 use Rattle.model.specs.Numbers.{number32}
 use Rattle.model.specs.TagList.{max_tags, max_key, max_value, stored_key, tag_count_length, tag_entry_length, tags_length, keys_after}
 use Rattle.text.specs.Blocks.{all_zero}
 
-abbrev pub is_less : Order → Bool
+abbrev pub is_less : Ordering → Bool
 is_less o = by_order o true false false
 
 -- the lengths of the key and of the value whose entry stands at p

@@ -9,7 +9,7 @@ ghost use Rattle.tag_list.specs.Found.{spot_in, IsSpot};
 use crate::key::lower;
 use crate::sizes::{TAG_COUNT_LENGTH, TAG_ENTRY_LENGTH};
 use block::read32;
-use model::Order;
+use std::cmp::Ordering;
 use text::{compare, part};
 
 // The place of a key among the tags, the byte where it stands or would, whether it is held, and how long its value is.
@@ -34,19 +34,19 @@ pub fn find(list: &[u8], key: &[u8]) -> Found
         let size = read32(list, p);
         let value = read32(list, p + 4);
         match compare(key, part(list, q, size)) {
-            Order::Less => return Found {
+            Ordering::Less => return Found {
                 place: i,
                 start: q,
                 held: false,
                 size: 0,
             },
-            Order::Equal => return Found {
+            Ordering::Equal => return Found {
                 place: i,
                 start: q,
                 held: true,
                 size: value,
             },
-            Order::Greater => {
+            Ordering::Greater => {
                 q += size + value;
                 i += 1;
             }

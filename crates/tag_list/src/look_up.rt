@@ -1,6 +1,6 @@
 // What a tag list holds: how many tags, one by one, and by key.
 ghost use Rattle.std.specs.Prelude.{◌≡◌, true, ◌<◌, length};
-ghost use Rattle.model.specs.Opening.{gives, is_some};
+ghost use Rattle.model.specs.Opening.{is_some};
 ghost use Rattle.model.specs.TagList.{keys_after, shown_tags, decode_tags};
 ghost use Rattle.model.specs.TagOutcome.{parts_at, tag_count_in, tag_at_in, get_in, contains_in};
 ghost use Rattle.accessors.specs.Answers.{part_given, bool_given};
@@ -47,7 +47,7 @@ pub fn counts(list: &[u8]) -> GivenCount
 // The tag at a place below the count.
 fn tag_within(list: &[u8], place: usize) -> GivenTag
     requires { (is_some (decode_tags list.now) ≡ true) × (place < length (shown_tags list.now)) }
-    ensures { tag_given result ≡ gives (parts_at (keys_after (length (shown_tags list.now))) (shown_tags list.now) place) }
+    ensures { tag_given result ≡ Ok (parts_at (keys_after (length (shown_tags list.now))) (shown_tags list.now) place) }
 {
     let mut p = TAG_COUNT_LENGTH;
     let mut q = TAG_COUNT_LENGTH + TAG_ENTRY_LENGTH * read32(list, 0);

@@ -8,7 +8,7 @@ ghost use Rattle.tag_list.specs.Test.{is_less, before_next, tag_ok, tags_ok};
 use crate::key::is_stored_key;
 use crate::sizes::{MAX_KEY, MAX_TAGS, MAX_VALUE, TAG_COUNT_LENGTH, TAG_ENTRY_LENGTH, TAGS_LENGTH};
 use block::read32;
-use model::Order;
+use std::cmp::Ordering;
 use text::{compare, part, zeros_from};
 
 // Whether one key comes before another.
@@ -16,9 +16,9 @@ fn is_less(a: &[u8], b: &[u8]) -> bool
     ensures { result ≡ is_less (compare_bytes a.now b.now) }
 {
     match compare(a, b) {
-        Order::Less => true,
-        Order::Equal => false,
-        Order::Greater => false,
+        Ordering::Less => true,
+        Ordering::Equal => false,
+        Ordering::Greater => false,
     }
 }
 

@@ -1,6 +1,6 @@
 // Header lines by themselves: the GFA 1 specification's own example, and the lines of docs/FORMAT.md, example 16, read strictly and leniently.
 use crate::output::{Counts, judged, print_shown};
-use model::Strictness;
+
 use parse::Answer;
 use record::empty_record;
 use test_output::{print, print_number};
@@ -10,11 +10,11 @@ fn strictly(c: Counts, label: &[u8], line: &[u8]) -> Counts {
     print(label);
     print_shown(line);
     match strict::check_strict(line) {
-        Strictness::Fine => {
+        Ok(()) => {
             print(b" is fine");
             judged(c, true)
         }
-        Strictness::Faulty(n) => {
+        Err(n) => {
             print(b" is faulty at field ");
             print_number(n);
             judged(c, false)

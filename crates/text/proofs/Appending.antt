@@ -46,7 +46,7 @@ pub rest_end : {out : Bytes} {at : ℕ} {whole o : Bytes} {q : ℕ} {rest : Byte
 rest_end {o = o} {q = q} k e = k.makes q o (rw e (appends_none o q k.place))
 
 -- a text measured on any output, and appended to the front of one that has room for it
-module _ {none : Bytes} {t : Bytes} {size : ℕ} {o : Bytes} (m : Appends none 0 t size o) (room : ℕ) where
+module _ {None : Bytes} {t : Bytes} {size : ℕ} {o : Bytes} (m : Appends None 0 t size o) (room : ℕ) where
   pub measured_not : room < size → room < length t
   measured_not h = omega (arith, m.place)
 

@@ -7,8 +7,8 @@ use mathlib.Core.List.Memᴰ
 use mathlib.Core.List.{List, [], ◌∷◌, Memᴰ}
 use Prim.Native.Nat.{ℕ}
 use native.Mathlib.Omega.{arith}
-use Rattle.model.specs.declared.Order.{Order}
-use Rattle.model.specs.declared.Order.TheVariants.{Less, Equal, Greater}
+use Rattle.std.specs.declared.cmp.Ordering.{Ordering}
+use Rattle.std.specs.declared.cmp.Ordering.TheVariants.{Less, Equal, Greater}
 use Rattle.model.specs.Bytes.{by_order}
 use Rattle.model.specs.Record.{insert, insert_all, ascends}
 use Rattle.model.specs.Statements.{Ascending}
@@ -16,13 +16,13 @@ use Rattle.text.proofs.Tests.{both_true, less_true}
 use Rattle.text.proofs.Order.{StrictOrder, opposite}
 
 -- x is below every member
-abbrev pub Below : {A : Type 0} → (A → A → Order) → A → List A → Type 0
+abbrev pub Below : {A : Type 0} → (A → A → Ordering) → A → List A → Type 0
 Below {A} cmp x xs = (y : A) → Memᴰ y xs → cmp x y ≡ Less
 
 abbrev pub SameMembers : {A : Type 0} → List A → List A → Type 0
 SameMembers {A} xs ys = (z : A) → Memᴰ z xs ↔ Memᴰ z ys
 
-module _ {A : Type 0} (cmp : A → A → Order) where
+module _ {A : Type 0} (cmp : A → A → Ordering) where
   pub ascends_true : (xs : List A) → ascends cmp xs ≡ true ↔ Ascending cmp xs
   unfolding ascends Ascending
   ascends_true [] = (λ e. tt, λ a. refl)
@@ -53,7 +53,7 @@ module _ {A : Type 0} (cmp : A → A → Order) where
       further (inl e) = inl e
       further (inr m) = inr (Memᴰ.tail m)
 
-      go : (o : Order) → (Memᴰ z (insert cmp x ys) → (z ≡ x) ⊎ Memᴰ z ys)
+      go : (o : Ordering) → (Memᴰ z (insert cmp x ys) → (z ≡ x) ⊎ Memᴰ z ys)
           → Memᴰ z (by_order o (x ∷ y ∷ ys) (y ∷ ys) (y ∷ insert cmp x ys)) → (z ≡ x) ⊎ Memᴰ z (y ∷ ys)
       go Less rest m = Memᴰ.cases_cons m
       go Equal rest m = inr m
@@ -64,13 +64,13 @@ module _ {A : Type 0} (cmp : A → A → Order) where
   insert_keeps x [] z m = absurd (Memᴰ.not-nil m)
   insert_keeps x (y ∷ ys) z m = go (cmp x y) (insert_keeps x ys z)
     where
-      go : (o : Order) → (Memᴰ z ys → Memᴰ z (insert cmp x ys)) → Memᴰ z (by_order o (x ∷ y ∷ ys) (y ∷ ys) (y ∷ insert cmp x ys))
+      go : (o : Ordering) → (Memᴰ z ys → Memᴰ z (insert cmp x ys)) → Memᴰ z (by_order o (x ∷ y ∷ ys) (y ∷ ys) (y ∷ insert cmp x ys))
       go Less rest = Memᴰ.tail m
       go Equal rest = m
       go Greater rest = ⊎_elim (λ (e : z ≡ y). Memᴰ.head e) (λ (n : Memᴰ z ys). Memᴰ.tail (rest n)) (Memᴰ.cases_cons m)
 
 -- over a strict order
-module _ {A : Type 0} {cmp : A → A → Order} (ord : StrictOrder cmp) where
+module _ {A : Type 0} {cmp : A → A → Ordering} (ord : StrictOrder cmp) where
   pub less_irrefl : (x : A) → cmp x x ≡ Less → ⊥
   less_irrefl x e = let z : ◌≡◌ {A = ℕ} 0 1 = cc (ord.refl_equal x) in omega arith
 
@@ -96,7 +96,7 @@ module _ {A : Type 0} {cmp : A → A → Order} (ord : StrictOrder cmp) where
   insert_self x [] = Memᴰ.head refl
   insert_self x (y ∷ ys) = go (cmp x y) refl (insert_self x ys)
     where
-      go : (o : Order) → cmp x y ≡ o → Memᴰ x (insert cmp x ys) → Memᴰ x (by_order o (x ∷ y ∷ ys) (y ∷ ys) (y ∷ insert cmp x ys))
+      go : (o : Ordering) → cmp x y ≡ o → Memᴰ x (insert cmp x ys) → Memᴰ x (by_order o (x ∷ y ∷ ys) (y ∷ ys) (y ∷ insert cmp x ys))
       go Less e m = Memᴰ.head refl
       go Equal e m = Memᴰ.head (ord.same x y e)
       go Greater e m = Memᴰ.tail m
@@ -109,7 +109,7 @@ module _ {A : Type 0} {cmp : A → A → Order} (ord : StrictOrder cmp) where
   insert_ascending x [] a = unfold Ascending in tt
   insert_ascending x (y ∷ ys) a = go (cmp x y) refl (insert_ascending x ys (ascending_tail cmp y ys a))
     where
-      go : (o : Order) → cmp x y ≡ o → Ascending cmp (insert cmp x ys) → Ascending cmp (by_order o (x ∷ y ∷ ys) (y ∷ ys) (y ∷ insert cmp x ys))
+      go : (o : Ordering) → cmp x y ≡ o → Ascending cmp (insert cmp x ys) → Ascending cmp (by_order o (x ∷ y ∷ ys) (y ∷ ys) (y ∷ insert cmp x ys))
       go Less e r = unfold Ascending in (e, a)
       go Equal e r = a
       go Greater e r =

@@ -5,8 +5,8 @@ use mathlib.Core.List.{List, [], ◌∷◌, ◌++◌, map, Memᴰ}
 use Prim.Native.Nat.{ℕ, zero, suc, ◌<◌}
 use native.Mathlib.Omega.{arith}
 use lib.ListN.{length, get_or}
-use Rattle.model.specs.declared.Order.{Order}
-use Rattle.model.specs.declared.Order.TheVariants.{Less, Equal, Greater}
+use Rattle.std.specs.declared.cmp.Ordering.{Ordering}
+use Rattle.std.specs.declared.cmp.Ordering.TheVariants.{Less, Equal, Greater}
 use Rattle.model.specs.Bytes.{by_order, compare_numbers}
 use Rattle.model.specs.Record.{ascends}
 use Rattle.model.specs.Statements.{Ascending}
@@ -53,7 +53,7 @@ module _ {A : Type 0} (d : A) where
       go (inr n) rest = let r = rest n in (suc r.0, omega arith, r.2)
 
 -- a map that keeps the order of the list's members keeps the test
-pub ascends_map : {A B : Type 0} (cmp : A → A → Order) (cmp' : B → B → Order) (f : A → B) (xs : List A)
+pub ascends_map : {A B : Type 0} (cmp : A → A → Ordering) (cmp' : B → B → Ordering) (f : A → B) (xs : List A)
     → ((x y : A) → Memᴰ x xs → Memᴰ y xs → cmp' (f x) (f y) ≡ cmp x y) → ascends cmp' (map f xs) ≡ ascends cmp xs
 unfolding ascends
 ascends_map cmp cmp' f [] h = refl
@@ -64,7 +64,7 @@ ascends_map cmp cmp' f (x ∷ y ∷ ys) h =
       ascends_map cmp cmp' f (y ∷ ys) (λ u v m n. h u v (mathlib.Core.List.Memᴰ.tail m) (mathlib.Core.List.Memᴰ.tail n)),
     )
 
-module _ {A : Type 0} {cmp : A → A → Order} (ord : StrictOrder cmp) (d : A) where
+module _ {A : Type 0} {cmp : A → A → Ordering} (ord : StrictOrder cmp) (d : A) where
   pub ascending_get_or : (xs : List A) (i j : ℕ) → Ascending cmp xs → i < j → j < length xs → cmp (get_or xs i d) (get_or xs j d) ≡ Less
   ascending_get_or xs i zero a h k = absurd (omega arith)
   ascending_get_or [] i (suc j) a h k = absurd (omega arith)
@@ -76,7 +76,7 @@ module _ {A : Type 0} {cmp : A → A → Order} (ord : StrictOrder cmp) (d : A) 
       → cmp (get_or xs i d) (get_or xs j d) ≡ compare_numbers i j
   ascending_places xs i j a h k = go (compare_numbers i j) refl (compared_numbers i j)
     where
-      go : (o : Order) → compare_numbers i j ≡ o → by_order (compare_numbers i j) (i < j) (i ≡ j) (j < i) → cmp (get_or xs i d) (get_or xs j d) ≡ o
+      go : (o : Ordering) → compare_numbers i j ≡ o → by_order (compare_numbers i j) (i < j) (i ≡ j) (j < i) → cmp (get_or xs i d) (get_or xs j d) ≡ o
       go Less e c = ascending_get_or xs i j a (rw e at c) k
       go Equal e c = let q : i ≡ j = rw e at c in rw q (ord.refl_equal (get_or xs j d))
       go Greater e c = ord.flip (get_or xs j d) (get_or xs i d) ∙ ap opposite (ascending_get_or xs j i a (rw e at c) h)

@@ -6,8 +6,8 @@ use mathlib.Core.List.{List, [], ◌∷◌, ◌++◌, Memᴰ}
 use Prim.Native.Nat.{ℕ, ◌+◌, ◌≤◌}
 use native.Mathlib.Omega.{arith}
 use lib.ListN.{length, length-append}
-use Rattle.model.specs.declared.Order.{Order}
-use Rattle.model.specs.declared.Order.TheVariants.{Less, Equal, Greater}
+use Rattle.std.specs.declared.cmp.Ordering.{Ordering}
+use Rattle.std.specs.declared.cmp.Ordering.TheVariants.{Less, Equal, Greater}
 use Rattle.model.specs.Bytes.{Bytes, by_order}
 use Rattle.model.specs.Record.{insert, insert_all, bodies}
 use Rattle.model.specs.Statements.{Ascending}
@@ -27,13 +27,13 @@ pub total_bodies : (ns : List Bytes) → total length ns ≡ length (bodies ns)
 total_bodies [] = refl
 total_bodies (n ∷ ns) = omega (arith, total_bodies ns, length-append n (bodies ns))
 
-module _ {A : Type 0} (cmp : A → A → Order) (f : A → ℕ) where
+module _ {A : Type 0} (cmp : A → A → Ordering) (f : A → ℕ) where
   pub total_insert : (x : A) (ys : List A) → total f (insert cmp x ys) ≤ f x + total f ys
   unfolding insert
   total_insert x [] = omega arith
   total_insert x (y ∷ ys) = go (cmp x y) (total_insert x ys)
     where
-      go : (o : Order) → total f (insert cmp x ys) ≤ f x + total f ys → total f (by_order o (x ∷ y ∷ ys) (y ∷ ys) (y ∷ insert cmp x ys)) ≤ f x + total f (y ∷ ys)
+      go : (o : Ordering) → total f (insert cmp x ys) ≤ f x + total f ys → total f (by_order o (x ∷ y ∷ ys) (y ∷ ys) (y ∷ insert cmp x ys)) ≤ f x + total f (y ∷ ys)
       go Less h = omega arith
       go Equal h = omega arith
       go Greater h = omega arith
@@ -50,7 +50,7 @@ abbrev pub Once : {A : Type 0} → List A → Type 0
 Once [] = Unit {0}
 Once (x ∷ xs) = (Memᴰ x xs → ⊥) × Once xs
 
-pub ascending_once : {A : Type 0} {cmp : A → A → Order} → StrictOrder cmp → (xs : List A) → Ascending cmp xs → Once xs
+pub ascending_once : {A : Type 0} {cmp : A → A → Ordering} → StrictOrder cmp → (xs : List A) → Ascending cmp xs → Once xs
 ascending_once ord [] a = tt
 ascending_once {A} {cmp} ord (x ∷ xs) a =
     (λ m. less_irrefl ord x (ascending_below ord x xs a x m), ascending_once ord xs (ascending_tail cmp x xs a))

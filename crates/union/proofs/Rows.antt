@@ -1,7 +1,7 @@
 -- The pairs of a record as a row of steps, and two records' rows as one table.
 use mathlib.Core.Path.{◌≡◌, sym, ap, ◌∙◌}
 use mathlib.Core.List.{List}
-use mathlib.Core.Option.{some}
+use Rattle.std.specs.Prelude.{Some}
 use Prim.Native.Nat.{ℕ, ◌+◌, ◌*◌, ◌/◌, ◌%◌, ◌≤◌, ◌<◌}
 use native.Mathlib.Omega.{arith}
 use lib.ListN.{length, get_or, take, drop}
@@ -26,7 +26,7 @@ use Rattle.union.specs.Steps.{from_at, to_at, step_at, Rowable, Numbered, BothNu
 
 -- ------------------------------------------------------------------ one record
 
-module _ (b : Bytes) (g : GraphName) (d : decode b ≡ some g) (numbers : List ℕ) (base size : ℕ) (name : ℕ → Bytes) (few : size ≤ max_nodes) (n : Numbered b numbers base size name) (k : Kind) where
+module _ (b : Bytes) (g : GraphName) (d : decode b ≡ Some g) (numbers : List ℕ) (base size : ℕ) (name : ℕ → Bytes) (few : size ≤ max_nodes) (n : Numbered b numbers base size name) (k : Kind) where
   pub rowable : Rowable b k numbers base
   rowable = record {
     long = (decode_held b g d).long;
@@ -91,7 +91,7 @@ module _ (b c : Bytes) (numbers : List ℕ) (k : Kind) (rows₀ rows₁ rows₂ 
     second_long rows₀ rows₁ rows₂ (pair_count k b) (pair_count k c) (step_at b k numbers 0) (step_at c k numbers (name_count b)) one two room,
   )
 
-  module _ (g h : GraphName) (d : decode b ≡ some g) (e : decode c ≡ some h) (size : ℕ) (name : ℕ → Bytes) (n : BothNumbered b c numbers size name) where
+  module _ (g h : GraphName) (d : decode b ≡ Some g) (e : decode c ≡ Some h) (size : ℕ) (name : ℕ → Bytes) (n : BothNumbered b c numbers size name) where
     first_table : StepTable first size name (of_kind k (pairs_of k g))
     first_table = row_steps b g d numbers 0 size name n.few n.first k n.order first lengths.0
         (first_row rows₀ rows₁ rows₂ (pair_count k b) (pair_count k c) (step_at b k numbers 0) (step_at c k numbers (name_count b)) one two room)

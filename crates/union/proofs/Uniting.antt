@@ -1,7 +1,7 @@
 -- The spans of two records' names, joined, are nodes in the order of the names.
 use mathlib.Core.Path.{◌≡◌, ap, ◌∙◌}
 use mathlib.Core.List.{List, []}
-use mathlib.Core.Option.{some}
+use Rattle.std.specs.Prelude.{Some}
 use Prim.Native.Nat.{ℕ, ◌+◌, ◌≤◌, ◌<◌}
 use native.Mathlib.Omega.{arith}
 use lib.ListN.{length, get_or, take, drop}
@@ -25,10 +25,10 @@ use Rattle.union.specs.United.{names_of_both, Unitable}
 
 -- ------------------------------------------------------------------ one record
 
-readable : (b : Bytes) (g : GraphName) → decode b ≡ some g → Readable b
+readable : (b : Bytes) (g : GraphName) → decode b ≡ Some g → Readable b
 readable b g d = record { long = (decode_held b g d).long; few = (decode_held b g d).count; within = name_within b g d }
 
-rise : (b : Bytes) (g : GraphName) → decode b ≡ some g → InOrder (name_at b) (name_count b)
+rise : (b : Bytes) (g : GraphName) → decode b ≡ Some g → InOrder (name_at b) (name_count b)
 rise b g e p q l m =
     let n : q < length (names g) = omega (arith, record_count b g e) in
     rw (← record_name b g e p (omega arith), ← record_name b g e q m) (ascending_get_or bytes_order [] (names g) p q (names_ascending g) l n)

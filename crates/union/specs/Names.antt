@@ -1,7 +1,7 @@
 -- The names of two records as one row of spans, ascending by name, none twice; and the numbers of the names by place, those of the first
 -- record's places and behind them those of the second's.
 use Rattle.std.specs.Prelude.{◌≡◌, ◌⊎◌, Bool, true, false, List, ℕ, ◌+◌, ◌*◌, ◌≤◌, ◌<◌, length, get_or}
-use Rattle.model.specs.declared.Order.TheVariants.{Less}
+use Rattle.std.specs.declared.cmp.Ordering.TheVariants.{Less}
 use Rattle.model.specs.Bytes.{Bytes, compare_bytes}
 use Rattle.model.specs.Record.{max_names, max_name_bytes}
 use Rattle.model.specs.Layout.{record_length, name_count, bodies_at, body_start, body_length}

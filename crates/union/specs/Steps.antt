@@ -1,6 +1,5 @@
 -- The pairs of two records as one ascending table of steps.
-use Rattle.std.specs.Prelude.{◌≡◌, Bool, true, false, List, ℕ, ◌+◌, ◌*◌, ◌≤◌, ◌<◌, length, get_or, take}
-use Rattle.std.proofs.Math.Option.{some}
+use Rattle.std.specs.Prelude.{◌≡◌, Bool, true, false, List, ℕ, ◌+◌, ◌*◌, ◌≤◌, ◌<◌, length, get_or, take, Some}
 use Rattle.model.specs.declared.Kind.{Kind}
 use Rattle.model.specs.declared.Kind.TheVariants.{Subgraph, Translation}
 use Rattle.model.specs.Bytes.{Bytes}
@@ -52,8 +51,8 @@ pub record BothNumbered (b c : Bytes) (numbers : List ℕ) (size : ℕ) (name : 
 pub record Records (b c : Bytes) : Type 0 where
   pub g : GraphName
   pub h : GraphName
-  pub first : decode b ≡ some g
-  pub second : decode c ≡ some h
+  pub first : decode b ≡ Some g
+  pub second : decode c ≡ Some h
 
 -- how many pairs two records have: of one kind, and of both
 abbrev pub pairs_of_kind : Kind → Bytes → Bytes → ℕ
@@ -82,5 +81,5 @@ by_question false g h = by_subgraph g h
 -- the first r of a table are the steps for these relations of two records, by any names that the numbers have
 pub record Gathered (b c : Bytes) (numbers : List ℕ) (by : GraphName → GraphName → Relation) (pairs : ℕ) (out : List ℕ) (r : ℕ) : Type 0 where
   pub count : r ≤ pairs
-  pub steps : (g h : GraphName) → decode b ≡ some g → decode c ≡ some h → (size : ℕ) (name : ℕ → Bytes) → BothNumbered b c numbers size name
+  pub steps : (g h : GraphName) → decode b ≡ Some g → decode c ≡ Some h → (size : ℕ) (name : ℕ → Bytes) → BothNumbered b c numbers size name
       → StepTable (take r out) size name (by g h)

@@ -4,7 +4,7 @@ ghost use Rattle.model.specs.Layout.{record_length, name_count};
 ghost use Rattle.search.specs.Table.{Written};
 ghost use Rattle.union.specs.Names.{span_at, Readable, IsNext, Joinable, Joined};
 
-use model::Order;
+use std::cmp::Ordering;
 use record::{bodies_at, body_length, body_start, name_count};
 use search::{SPAN_LENGTHS, name_of};
 use text::compare;
@@ -61,17 +61,17 @@ fn next_name<'a>(
     let x = xs[i];
     let y = ys[j];
     match compare(name_of(first, second, x), name_of(first, second, y)) {
-        Order::Less => Next {
+        Ordering::Less => Next {
             span: x,
             first: true,
             second: false,
         },
-        Order::Equal => Next {
+        Ordering::Equal => Next {
             span: x,
             first: true,
             second: true,
         },
-        Order::Greater => Next {
+        Ordering::Greater => Next {
             span: y,
             first: false,
             second: true,

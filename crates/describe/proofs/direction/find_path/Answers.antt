@@ -18,9 +18,9 @@ returns-in-Refused-translates_to c =
     let there = c.translates_to in
     let back = c.translates_to-in-No in
     let this = c.in-Refused-translates_to in
-    let none = not_found a.b.now a.c.now a.path.now _ there.new.out c.requires there.ensures c.in-No.is in
+    let None = not_found a.b.now a.c.now a.path.now _ there.new.out c.requires there.ensures c.in-No.is in
     let fault = refused_fault a.c.now a.b.now there.new.out _ back.new.out (there.auto.out ∙ c.requires) back.ensures this.n this.is in
-    absurd (fault.1 (fault.0 ∙ no_fault a.c.now a.b.now none.h none.g none.second none.first))
+    absurd (fault.1 (fault.0 ∙ no_fault a.c.now a.b.now None.h None.g None.second None.first))
 
 pub returns-in-Yes-translates_to : goal.returns-in-Yes-translates_to
 returns-in-Yes-translates_to c =

@@ -37,8 +37,8 @@ pub returns : goal.returns
 returns c =
     let p = c.args.path.now in
     let l = c.loop-left in
-    let none = no_steps p l.e l.at l.left c.loop-left-test.false in
+    let None = no_steps p l.e l.at l.left c.loop-left-test.false in
     record {
       stands = l.invariant.listed;
-      same = sym (l.invariant.same ∙ ap (λ (ls : List StepFrom). keeping ls (steps_at p l.first l.start l.listed)) none);
+      same = sym (l.invariant.same ∙ ap (λ (ls : List StepFrom). keeping ls (steps_at p l.first l.start l.listed)) None);
     }

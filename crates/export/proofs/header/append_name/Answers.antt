@@ -10,12 +10,12 @@ use Rattle.export.proofs.header.append_name.Goals as goal
 pub returns-then-not-has_name : goal.returns-then-not-has_name
 returns-then-not-has_name c =
     let a = c.args in
-    let none = unnamed (shown a.b.now).name (sym c.if-not-has_name.ensures) in
-    appends_as (ap (name_text a.before.now a.after.now) (sym none)) (appends_none a.out.now a.at (omega arith))
+    let None = unnamed (shown a.b.now).name (sym c.if-not-has_name.ensures) in
+    appends_as (ap (name_text a.before.now a.after.now) (sym None)) (appends_none a.out.now a.at (omega arith))
 
 pub returns : goal.returns
 returns c =
     let a = c.args in
-    let some = named (shown a.b.now).name (sym c.if-not-has_name.ensures) in
-    appends_as (ap (name_text a.before.now a.after.now) (sym some))
+    let Some = named (shown a.b.now).name (sym c.if-not-has_name.ensures) in
+    appends_as (ap (name_text a.before.now a.after.now) (sym Some))
     (appends_both (appends_both c.append-p.ensures (appends_as c.own_name.ensures c.append-q.ensures)) c.append.ensures)

@@ -19,9 +19,9 @@ pub append_run-requires : goal.append_run-requires
 append_run-requires c =
     let a = c.args in
     let count = pair_count a.kind a.b.now in
-    let some : 0 < count = omega (arith, c.pair_count-count.ensures.0, c.if-count-eq0.false) in (
+    let Some : 0 < count = omega (arith, c.pair_count-count.ensures.0, c.if-count-eq0.false) in (
       record { start = c.bodies_at-bodies.ensures.0; near = c.bodies_at-bodies.ensures.1 },
-      rw (c.table_at-pairs.ensures.0, c.pair_count-count.ensures.0) (pairs_rest a.b.now (table_at a.kind a.b.now) count some (c.requires.pairs a.kind)),
+      rw (c.table_at-pairs.ensures.0, c.pair_count-count.ensures.0) (pairs_rest a.b.now (table_at a.kind a.b.now) count Some (c.requires.pairs a.kind)),
     )
 
 pub returns : goal.returns

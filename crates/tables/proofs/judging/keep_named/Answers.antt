@@ -1,6 +1,6 @@
 -- The own name is absent, or it is found at its place.
 use mathlib.Core.Path.{◌≡◌, sym, ap, subst, ◌∙◌}
-use mathlib.Core.Option.{Option, some}
+use Rattle.std.specs.Prelude.{Option, Some}
 use Rattle.model.specs.Bytes.{Bytes}
 use Rattle.model.specs.Layout.{shown}
 use Rattle.model.specs.Outcome.{kept_or}
@@ -29,16 +29,16 @@ pub keep-requires-2 : goal.keep-requires-2
 keep-requires-2 c =
     let a = c.args in
     let t = tables a.refs.now a.subs.now a.trans.now a.pool.now a.sizes in
-    let own : (shown a.buffer.now).name ≡ some c.own_name.result.now =
-    an_own (shown a.buffer.now).name (sym c.has_name.ensures ∙ c.if-not-has_name.false) ∙ ap (λ (x : Bytes). some x) (sym c.own_name.ensures) in
+    let own : (shown a.buffer.now).name ≡ Some c.own_name.result.now =
+    an_own (shown a.buffer.now).name (sym c.has_name.ensures ∙ c.if-not-has_name.false) ∙ ap (λ (x : Bytes). Some x) (sym c.own_name.ensures) in
     (complete_placed t _ c.name_place-p.result (subst (λ (o : Option Bytes). Good o t) own c.requires.1) c.name_place-p.ensures.0, (is_held a.buffer.now c.requires.0).long)
 
 pub returns : goal.returns
 returns c =
     let a = c.args in
     let t = tables a.refs.now a.subs.now a.trans.now a.pool.now a.sizes in
-    let own : (shown a.buffer.now).name ≡ some c.own_name.result.now =
-    an_own (shown a.buffer.now).name (sym c.has_name.ensures ∙ c.if-not-has_name.false) ∙ ap (λ (x : Bytes). some x) (sym c.own_name.ensures) in
+    let own : (shown a.buffer.now).name ≡ Some c.own_name.result.now =
+    an_own (shown a.buffer.now).name (sym c.has_name.ensures ∙ c.if-not-has_name.false) ∙ ap (λ (x : Bytes). Some x) (sym c.own_name.ensures) in
     c.keep-2.ensures
     ∙ ap (kept_or a.buffer.now)
     (meaning_placed t _ c.name_place-p.result (subst (λ (o : Option Bytes). Good o t) own c.requires.1) c.name_place-p.ensures.0 ∙ ap (λ (o : Option Bytes). owned o (graph_in t)) (sym own))

@@ -1,7 +1,7 @@
 -- The value of a held key is copied, if it fits, and then the key is removed.
 use Rattle.std.proofs.Common.{◌≡◌, sym, ap, ◌∙◌, length, arith}
 use Rattle.std.proofs.lemmas.Bool.{not-true, not-false}
-use Rattle.model.specs.Opening.{gives}
+use Rattle.std.specs.Prelude.{Ok}
 use Rattle.model.specs.TagList.{lower}
 use Rattle.tag_list.proofs.Asking.{start_within}
 use Rattle.tag_list.proofs.KeyBytes.{fine_length, front_lowered}
@@ -52,7 +52,7 @@ returns c =
     let k : c.part-2.result.now ≡ lower a.key.now = c.part-2.ensures ∙ front_lowered a.space.now a.key.now found.new.space found.ensures.1 in
     let e = remove_done a.list.now r.0 a.key.now r.1 (length a.out.now) found.result found.ensures.0 h c.if-out-size.false in
     record {
-      answer = rw e (ap gives (sym (held_size a.list.now r.0 a.key.now found.result found.ensures.0 h)));
+      answer = rw e (ap Ok (sym (held_size a.list.now r.0 a.key.now found.result found.ensures.0 h)));
       rest = rw e (c.delete.ensures ∙ rw k);
       output = rw (e, held_value a.list.now r.0 a.key.now found.result found.ensures.0 h) (c.copy.ensures.1 ∙ rw c.part.ensures);
     }

@@ -1,5 +1,5 @@
 use Rattle.std.proofs.Common.{◌≡◌, refl, ◌∙◌, length, arith}
-use Rattle.std.proofs.Math.Option.{some, none}
+use Rattle.std.specs.Prelude.{Some, None}
 use Rattle.model.specs.TagList.{shown_tags}
 use Rattle.tag_list.proofs.Walk.{holds, turn, turn_next, is_spot, spot_end, spot_less, spot_equal, spot_greater}
 use Rattle.tag_list.proofs.finding.find.Goals as goal
@@ -20,7 +20,7 @@ returns-in-Less c =
     let size = c.read32-size in
     let value = c.read32-value in
     let t = turn b (shown_tags b) l.i l.q (omega (arith, l.invariant.number)) l.invariant.stands in
-    is_spot l.i l.q none (l.invariant.found ∙ spot_less t c.args.key.now size.result value.result size.ensures.0 value.ensures.0 (rw (← c.part.ensures, ← c.compare.ensures) c.in-Less.is)) refl refl refl
+    is_spot l.i l.q None (l.invariant.found ∙ spot_less t c.args.key.now size.result value.result size.ensures.0 value.ensures.0 (rw (← c.part.ensures, ← c.compare.ensures) c.in-Less.is)) refl refl refl
 
 pub returns-in-Equal : goal.returns-in-Equal
 returns-in-Equal c =
@@ -29,7 +29,7 @@ returns-in-Equal c =
     let size = c.read32-size in
     let value = c.read32-value in
     let t = turn b (shown_tags b) l.i l.q (omega (arith, l.invariant.number)) l.invariant.stands in
-    is_spot l.i l.q (some value.result) (l.invariant.found ∙ spot_equal t c.args.key.now size.result value.result size.ensures.0 value.ensures.0 (rw (← c.part.ensures, ← c.compare.ensures) c.in-Equal.is)) refl refl refl
+    is_spot l.i l.q (Some value.result) (l.invariant.found ∙ spot_equal t c.args.key.now size.result value.result size.ensures.0 value.ensures.0 (rw (← c.part.ensures, ← c.compare.ensures) c.in-Equal.is)) refl refl refl
 
 pub loop-i-preserved : goal.loop-i-preserved
 loop-i-preserved c =
@@ -49,4 +49,4 @@ pub returns : goal.returns
 returns c =
     let l = c.loop-i in
     let b = c.args.list.now in
-    is_spot l.i l.q none (l.invariant.found ∙ spot_end c.args.key.now (shown_tags b) l.i l.q (omega (arith, l.invariant.number))) refl refl refl
+    is_spot l.i l.q None (l.invariant.found ∙ spot_end c.args.key.now (shown_tags b) l.i l.q (omega (arith, l.invariant.number))) refl refl refl

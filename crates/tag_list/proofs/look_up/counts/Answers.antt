@@ -1,6 +1,7 @@
 -- The number that the block begins with is the count.
 use Rattle.std.proofs.Common.{◌≡◌, true, sym, ap, ◌∙◌, arith}
-use Rattle.model.specs.Opening.{gives, is_some}
+use Rattle.std.specs.Prelude.{Ok}
+use Rattle.model.specs.Opening.{is_some}
 use Rattle.model.specs.TagList.{decode_tags}
 use Rattle.model.specs.TagOutcome.{tag_count_in}
 use Rattle.tag_list.proofs.Ready.{list_refused, list_given}
@@ -19,4 +20,4 @@ unfolding tag_count_in
 returns c =
     let b = c.args.list.now in
     let listed : is_some (decode_tags b) ≡ true = sym c.is_tag_list.ensures ∙ c.if-not-is_tag_list.false in
-    rw (list_given b listed) (ap gives (c.read32.ensures.0 ∙ (holds b listed).count))
+    rw (list_given b listed) (ap Ok (c.read32.ensures.0 ∙ (holds b listed).count))

@@ -1,6 +1,6 @@
 use Rattle.std.proofs.Common.{◌≡◌, refl, sym, ap, ◌∙◌, [], length, arith}
 use Rattle.std.proofs.Math.Nat.{sub-zero}
-use Rattle.model.specs.Opening.{gives}
+use Rattle.std.specs.Prelude.{Ok}
 use Rattle.model.specs.TagList.{shown_tags}
 use Rattle.tag_list.proofs.Walk.{holds, turn, turn_next, parts_further, parts_here}
 use Rattle.tag_list.proofs.look_up.tag_within.Goals as goal
@@ -40,4 +40,4 @@ returns c =
     let t = turn b (shown_tags b) l.i l.q (omega (arith, c.requires.1)) l.invariant.stands in
     let d = rw l.invariant.entry at size.ensures.0 in
     let e = rw l.invariant.entry at value.ensures.0 in
-    ap gives (sym (l.invariant.parts ∙ parts_here t [] size.result value.result d e c.args.place (omega arith)))
+    ap Ok (sym (l.invariant.parts ∙ parts_here t [] size.result value.result d e c.args.place (omega arith)))
