@@ -6,12 +6,12 @@ use Prim.Native.Nat.{ℕ, suc, ◌+◌, ◌≤◌, ◌<◌}
 use native.Mathlib.Omega.{arith}
 use lib.Dec.{eqb}
 use lib.ListN.{length, take}
-use Rattle.std.specs.Prelude.{Err}
+use Rattle.std.specs.Prelude.{Result, Err}
 use Rattle.model.specs.Text.{text}
 use Rattle.model.specs.Bytes.{Bytes, same_bytes, cons_head, split}
 use Rattle.model.specs.Strict.{fine_field, has_tag, strict_fields, strict_parts, strict}
 
-same_number : (m n : ℕ) → Err m ≡ Err n → m ≡ n
+same_number : (m n : ℕ) → ◌≡◌ {A = Result Unit ℕ} (Err m) (Err n) → m ≡ n
 same_number m n e = cc
 
 fields_bound : (i : ℕ) (seen fs : List Bytes) (n : ℕ) → strict_fields i seen fs ≡ Err n → n < i + length fs

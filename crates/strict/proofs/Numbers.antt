@@ -4,7 +4,6 @@ use mathlib.Core.Bool.{Bool, true, false, cond, ◌&&◌, ◌||◌, false≢true
 use mathlib.Core.List.{[], ◌∷◌}
 use Prim.Native.Nat.{ℕ}
 use lib.Dec.{eqb}
-use Rattle.std.specs.Prelude.{Err}
 use borrow.Author.Tests.{eqb-true}
 use Rattle.model.specs.Bytes.{Bytes}
 use Rattle.model.specs.Strict.{Regex, epsilon, one, seq, alt, plus, opt, byte, one_of, sign, digit, integer, float, nullable, after, matches}
@@ -75,9 +74,9 @@ abbrev Refuses : (ℕ → Number) → Bytes → Type 0
 Refuses f [] = Unit {0}
 Refuses f (b ∷ bs) = (f b ≡ Refused) × Refuses f bs
 
-Err : (f : ℕ → Number) (bs : Bytes) (x : ℕ) → Refuses f bs → is_one_of bs x ≡ true → f x ≡ Refused
-Err f [] x r e = absurd (false≢true e)
-Err f (b ∷ bs) x r e = go (eqb b x) refl e (Err f bs x r.1)
+refused_at : (f : ℕ → Number) (bs : Bytes) (x : ℕ) → Refuses f bs → is_one_of bs x ≡ true → f x ≡ Refused
+refused_at f [] x r e = absurd (false≢true e)
+refused_at f (b ∷ bs) x r e = go (eqb b x) refl e (refused_at f bs x r.1)
   where
     go : (t : Bool) → eqb b x ≡ t → t || is_one_of bs x ≡ true → (is_one_of bs x ≡ true → f x ≡ Refused) → f x ≡ Refused
     go true h e k = sym (ap f (eqb-true b x h)) ∙ r.0
@@ -115,14 +114,14 @@ module _ (list : Bool) (x : ℕ) (s : Bytes) where
       seq_opt_seq sign digits (rest list) (x ∷ s)
       ∙ rw (seq_one_of signs (seq digits (rest list)) x s, unsigned_integer_step)
       (or_else list s (is_one_of signs x) UnsignedInteger (next list UnsignedInteger x)
-      (Err (next list UnsignedInteger) signs x (refl, (refl, tt))))
+      (refused_at (next list UnsignedInteger) signs x (refl, (refl, tt))))
 
   -- a comma of a list, or else what p leaves
   comma_step : (p : ℕ → Number) → p 44 ≡ Refused
       → matches (rest list) (x ∷ s) || left list (p x) s ≡ left list (cond (eqb 44 x && list) Float (p x)) s
   comma_step p r =
       rw (rest_step list x s)
-      (or_else list s (eqb 44 x && list) Float (p x) (λ e. Err p (44 ∷ []) x (r, tt) (rw ((and-eq-true_iff (eqb 44 x) list).0 e).0)))
+      (or_else list s (eqb 44 x && list) Float (p x) (λ e. refused_at p (44 ∷ []) x (r, tt) (rw ((and-eq-true_iff (eqb 44 x) list).0 e).0)))
 
   digits_step : left list Digits (x ∷ s) ≡ left list (next list Digits x) s
   digits_step = rw unsigned_integer_step (comma_step (next list UnsignedInteger) refl)
@@ -139,7 +138,7 @@ module _ (list : Bool) (x : ℕ) (s : Bytes) where
         comma_step p r.0,
       )
       (or_else list s (is_one_of exponents x) Integer (cond (eqb 44 x && list) Float (p x))
-      (Err (λ y. cond (eqb 44 y && list) Float (p y)) exponents x r.1))
+      (refused_at (λ y. cond (eqb 44 y && list) Float (p y)) exponents x r.1))
 
   fraction_step : left list Fraction (x ∷ s) ≡ left list (next list Fraction x) s
   fraction_step = rw point_step (exponent_step (next list Point) (refl, (refl, (refl, tt))))
@@ -162,7 +161,7 @@ module _ (list : Bool) (x : ℕ) (s : Bytes) where
       (gather (digit x) (matches (seq pointed (rest list)) s) (matches (seq digits (seq pointed (rest list))) s) (eqb 46 x && left list Point s)
       (left list Fraction s)
       ∙ rw (← seq_opt_seq digits pointed (rest list) s, or_nothing list s (digit x) Whole)
-      (or_else list s (eqb 46 x) Point (after_digit x Whole) (λ e. Err (λ y. after_digit y Whole) (46 ∷ []) x (refl, tt) (rw e))))
+      (or_else list s (eqb 46 x) Point (after_digit x Whole) (λ e. refused_at (λ y. after_digit y Whole) (46 ∷ []) x (refl, tt) (rw e))))
     where
       gather : (d r t k f : Bool) → (d && (r || t)) || (k || (d && f)) ≡ k || (d && (f || (t || r)))
       gather true r t k f = or_comm (r || t) (k || f) ∙ or_assoc k f (r || t) ∙ ap (λ (u : Bool). k || (f || u)) (or_comm r t)
@@ -172,7 +171,7 @@ module _ (list : Bool) (x : ℕ) (s : Bytes) where
   float_step =
       seq_opt_seq sign (seq (opt digits) pointed) (rest list) (x ∷ s)
       ∙ rw (seq_one_of signs (seq (seq (opt digits) pointed) (rest list)) x s, unsigned_step)
-      (or_else list s (is_one_of signs x) Unsigned (after_sign x) (Err after_sign signs x (refl, (refl, tt))))
+      (or_else list s (is_one_of signs x) Unsigned (after_sign x) (refused_at after_sign signs x (refl, (refl, tt))))
 
   -- after digits, a further digit is of the whole part too
   digit_again : left list (next list Point x) s || left list (after_sign x) s ≡ left list (after_sign x) s
