@@ -12,7 +12,10 @@ use Rattle.model.specs.Bytes.{Bytes, same_bytes}
 use Rattle.model.specs.Layout.{pair_length, name_count, own_number, pair_count, table_at, from_place, to_place, shown}
 use Rattle.model.specs.Opening.{Given, is_some, fault_of, fault_of_both}
 use Rattle.model.specs.Outcome.{name_or}
-use Rattle.model.specs.Questions.{Counts, counts_in, Part, PairParts, name_in, name_at_in, pair_at_in, same_name, is_same_in}
+use Rattle.model.specs.declared.holdings.Counts.{Counts}
+use Rattle.model.specs.declared.holdings.Part.{Part}
+use Rattle.model.specs.declared.holdings.PairParts.{PairParts}
+use Rattle.model.specs.Questions.{counts_in, name_in, name_at_in, pair_at_in, same_name, is_same_in}
 use Rattle.record.proofs.Own.{named, unnamed}
 use Rattle.record.proofs.Held.{Held}
 use Rattle.record.proofs.Opening.{record_opened, two_opened, asked_shown, both_shown}

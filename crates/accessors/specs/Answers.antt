@@ -1,6 +1,8 @@
 -- What each case of an answer means: a refusal's number, or the values.
 use Rattle.std.specs.Prelude.{Bool, Option, Some, None, Ok, Err}
-use Rattle.model.specs.Questions.{Counts, Part, PairParts}
+use Rattle.model.specs.declared.holdings.Counts.{Counts}
+use Rattle.model.specs.declared.holdings.Part.{Part}
+use Rattle.model.specs.declared.holdings.PairParts.{PairParts}
 use Rattle.model.specs.Opening.{Given}
 use Rattle.accessors.specs.declared.GivenCounts.{GivenCounts}
 use Rattle.accessors.specs.declared.GivenCounts.TheVariants as counts

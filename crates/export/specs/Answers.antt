@@ -3,7 +3,8 @@ use Rattle.std.specs.Prelude.{◌≡◌, ℕ, length, Option, Some, None, Ok, Er
 use Rattle.model.specs.Bytes.{Bytes}
 use Rattle.model.specs.Questions.{mapped}
 use Rattle.model.specs.Opening.{Given}
-use Rattle.model.specs.Written.{size_written, output_with, Tags, TagSizes, tag_sizes, put_value, output_with_tag}
+use Rattle.model.specs.declared.holdings.TagSizes.{TagSizes}
+use Rattle.model.specs.Written.{size_written, output_with, Tags, tag_sizes, put_value, output_with_tag}
 use Rattle.export.specs.declared.answer.Written.{Written}
 use Rattle.export.specs.declared.answer.Written.TheVariants.{Refused, Wrote}
 use Rattle.export.specs.declared.answer.Tag.{Tag}

@@ -12,7 +12,8 @@ use Rattle.model.specs.Record.{GraphName}
 use Rattle.model.specs.Layout.{decode}
 use Rattle.model.specs.Opening.{Given, and_then, or_refuse, is_some, opened, record_in, has_size}
 use Rattle.model.specs.Questions.{asked, mapped}
-use Rattle.model.specs.Written.{Tags, TagSizes, tags_of, all_within, tag_sizes, tags_written, put_value}
+use Rattle.model.specs.declared.holdings.TagSizes.{TagSizes}
+use Rattle.model.specs.Written.{Tags, tags_of, all_within, tag_sizes, tags_written, put_value}
 use Rattle.model.specs.TagList.{max_value, set_graph_name, shown_tags, decode_tags}
 use Rattle.model.specs.TagOutcome.{tag_list, short_tags, judged_tags, set_graph_name_in}
 use Rattle.export.specs.declared.answer.Tag.{Tag}

@@ -1,9 +1,9 @@
 -- What the questions about one record or two give, from the buffers alone: the number of a refusal, or the values.
 use Rattle.std.specs.Prelude.{Bool, false, List, ℕ, length, Option, Some, None, slice_get, Ok}
 use Rattle.model.specs.declared.Kind.{Kind}
-pub use Rattle.model.specs.declared.holdings.Counts.{Counts}
-pub use Rattle.model.specs.declared.holdings.Part.{Part}
-pub use Rattle.model.specs.declared.holdings.PairParts.{PairParts}
+use Rattle.model.specs.declared.holdings.Counts.{Counts}
+use Rattle.model.specs.declared.holdings.Part.{Part}
+use Rattle.model.specs.declared.holdings.PairParts.{PairParts}
 use Rattle.model.specs.declared.Kind.TheVariants.{Subgraph, Translation}
 use Rattle.model.specs.Bytes.{Bytes, same_bytes}
 use Rattle.model.specs.Record.{Pair, GraphName, names}

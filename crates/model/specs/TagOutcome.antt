@@ -2,10 +2,11 @@
 -- each buffer holds then.
 use Rattle.std.specs.Prelude.{Bool, cond, ◌&&◌, List, [], ◌∷◌, ℕ, zero, suc, ◌+◌, length, leb, Option, Some, None, Ok, Err}
 use Rattle.model.specs.declared.fault.Fault.TheVariants.{OutputShort, BadKey, LongValue, TagsFull, NotATagList}
-pub use Rattle.model.specs.declared.holdings.TagParts.{TagParts}
+use Rattle.model.specs.declared.holdings.TagParts.{TagParts}
 use Rattle.model.specs.Bytes.{Bytes, same_bytes}
 use Rattle.model.specs.Opening.{Given, and_then, or_refuse, is_some, opened, record_in}
-use Rattle.model.specs.Questions.{Part, mapped}
+use Rattle.model.specs.declared.holdings.Part.{Part}
+use Rattle.model.specs.Questions.{mapped}
 use Rattle.model.specs.Written.{Tags, tags_of, fits, put_value}
 use Rattle.model.specs.TagList.{Tag, look_up, set_tag, remove_tag, set_graph_name, max_tags, max_value, lower, fine_key, keys_after, encode_tags, decode_tags}
 

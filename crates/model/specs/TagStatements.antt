@@ -6,10 +6,12 @@ use Rattle.model.specs.Bytes.{Bytes, same_bytes}
 use Rattle.model.specs.Record.{GraphName}
 use Rattle.model.specs.Layout.{record_length, decode}
 use Rattle.model.specs.Opening.{Given, and_then, number_of, value_or, opened, record_in}
-use Rattle.model.specs.Questions.{Part, mapped}
+use Rattle.model.specs.declared.holdings.Part.{Part}
+use Rattle.model.specs.Questions.{mapped}
 use Rattle.model.specs.Written.{tags_of}
 use Rattle.model.specs.TagList.{Tag, tag, compare_tags, look_up, set_tag, remove_tag, set_graph_name, max_tags, max_value, lower, fine_key, stored_key, tags_length, encode_tags, decode_tags}
-use Rattle.model.specs.TagOutcome.{TagParts, Removal, tag_count_in, tag_at_in, get_in, contains_in, value_in, short_tags, insert_in, set_graph_name_in, remove_in, rest_given, list_with, output_with_removed}
+use Rattle.model.specs.declared.holdings.TagParts.{TagParts}
+use Rattle.model.specs.TagOutcome.{Removal, tag_count_in, tag_at_in, get_in, contains_in, value_in, short_tags, insert_in, set_graph_name_in, remove_in, rest_given, list_with, output_with_removed}
 use Rattle.model.specs.Statements.{Ascending, RecordsDemand1}
 
 -- a tag list within the sizes of docs/FORMAT.md

@@ -1,8 +1,9 @@
 -- The numbers that answers are handed out as, and the flags that come in: 1 and 0 for yes and no, 0 beside a part that is not there.
 use Rattle.std.specs.Prelude.{Result, Bool, true, false, cond, not, ℕ, ◌+◌, length, eqb, Option, Some, None, Ok, Err}
 use Rattle.model.specs.Bytes.{Bytes}
-use Rattle.model.specs.Questions.{Part, PairParts}
-use Rattle.model.specs.TagOutcome.{TagParts}
+use Rattle.model.specs.declared.holdings.Part.{Part}
+use Rattle.model.specs.declared.holdings.PairParts.{PairParts}
+use Rattle.model.specs.declared.holdings.TagParts.{TagParts}
 
 abbrev pub one_if : Bool → ℕ
 one_if true = 1

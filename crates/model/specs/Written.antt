@@ -1,7 +1,7 @@
 -- What the writers give, from their arguments alone: the number of a refusal, or the bytes that go to the front of an output.
 use Rattle.std.specs.Prelude.{Bool, true, cond, ◌&&◌, ℕ, length, leb, Option, Some, None, Ok, Err}
 use Rattle.model.specs.declared.fault.Fault.TheVariants.{OutputShort, LongDesc}
-pub use Rattle.model.specs.declared.holdings.TagSizes.{TagSizes}
+use Rattle.model.specs.declared.holdings.TagSizes.{TagSizes}
 use Rattle.model.specs.Bytes.{Bytes, put}
 use Rattle.model.specs.Record.{GraphName}
 use Rattle.model.specs.Questions.{asked, asked_both, mapped}

@@ -12,7 +12,9 @@ use Rattle.model.specs.Bytes.{Bytes}
 use Rattle.model.specs.Numbers.{number}
 use Rattle.model.specs.Record.{Pair, GraphName, names, bodies}
 use Rattle.model.specs.Layout.{body_of, counts_length, entry_length, pair_length, body_length, body_start, name_count, own_number, own_at, decode, bodies_at, pair_count, table_at}
-use Rattle.model.specs.Questions.{Part, PairParts, part_of, mapped, pair_parts, pairs_of}
+use Rattle.model.specs.declared.holdings.Part.{Part}
+use Rattle.model.specs.declared.holdings.PairParts.{PairParts}
+use Rattle.model.specs.Questions.{part_of, mapped, pair_parts, pairs_of}
 use Rattle.record.specs.Test.{entries_of}
 use Rattle.record.proofs.Words.{get_or_rows_at}
 use Rattle.record.specs.Coded.{spans}

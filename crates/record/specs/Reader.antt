@@ -1,11 +1,16 @@
 -- What a record's reader holds, and where it finds a name.
-use Rattle.std.specs.Prelude.{◌≡◌, ℕ, ◌+◌, ◌≤◌, ◌<◌, length}
+use Rattle.std.specs.Prelude.{◌≡◌, ℕ, zero, suc, ◌+◌, ◌≤◌, ◌<◌, length, Option, Some, None}
 use Rattle.model.specs.declared.Kind.TheVariants.{Subgraph, Translation}
 use Rattle.model.specs.Bytes.{Bytes}
 use Rattle.model.specs.Layout.{counts_length, name_count, own_number, pair_count, body_start, body_length, bodies_at}
 use Rattle.record.specs.declared.layout.Head.{Head}
-use Rattle.record.specs.declared.layout.Part.{Part}
+use Rattle.model.specs.declared.holdings.Part.{Part}
 use Rattle.record.specs.declared.reader.Reader.{Reader}
+
+-- the place that has this number, which is one more; 0 is the number of none
+abbrev pub place_numbered : ℕ → Option ℕ
+place_numbered zero = None
+place_numbered (suc i) = Some i
 
 -- n is a count m of the buffer
 abbrev pub IsCount : ℕ → ℕ → Type 0

@@ -3,13 +3,12 @@
 ghost use Rattle.std.specs.Prelude.{◌≡◌, ◌+◌, ◌*◌, ◌≤◌, ◌<◌, length};
 ghost use Rattle.model.specs.declared.Kind.TheVariants.{Subgraph, Translation};
 ghost use Rattle.model.specs.Layout.{counts_length, entry_length, pair_length, entry_at, name_count, own_number, pair_count, body_start, body_length, table_at, bodies_at, from_place, to_place, name_at, shown};
-ghost use Rattle.model.specs.Opening.{is_some};
-ghost use Rattle.model.specs.Outcome.{name_or};
-ghost use Rattle.record.specs.Reader.{IsCount, IsPart};
+ghost use Rattle.std.specs.Option.{option_copied};
+ghost use Rattle.record.specs.Reader.{place_numbered, IsCount, IsPart};
 
 use crate::offsets::{PAIR_LENGTH, bodies_after, entry_at};
 use crate::reader::{head_at, part_at};
-use model::Kind;
+use model::{Kind, Part};
 use text::read16;
 
 // The numbers that a record begins with: how many names; the own name, by its place counted from 1, or 0 for none; how many pairs of each
@@ -20,13 +19,6 @@ pub struct Head {
     pub own: usize,
     pub subgraph: usize,
     pub translation: usize,
-}
-
-// A part of a buffer.
-#[derive(Clone, Copy)]
-pub struct Part {
-    pub start: usize,
-    pub size: usize,
 }
 
 // Where the body at place i begins, counted from the first body.
@@ -73,12 +65,15 @@ pub fn name_count(b: &[u8]) -> usize
     head_at(b).names
 }
 
-// The own name's place, counted from 1, or 0 for none.
-pub fn own_place(b: &[u8]) -> usize
+// The own name's place, counted from 0, if there is one.
+pub fn own_place(b: &[u8]) -> Option<usize>
     requires { counts_length ≤ length b.now }
-    ensures { (result ≡ own_number b.now) × (result < 65536) }
+    ensures { result ≡ place_numbered (own_number b.now) }
 {
-    head_at(b).own
+    match head_at(b).own {
+        0 => None,
+        own => Some(own - 1),
+    }
 }
 
 // The name at place i, with the bodies from byte `bodies` on.
@@ -102,24 +97,14 @@ pub fn name_at(b: &[u8], i: usize) -> &[u8]
     text::part(b, start, size)
 }
 
-// Whether there is an own name.
-pub fn has_name(b: &[u8]) -> bool
-    requires { counts_length ≤ length b.now }
-    ensures { result ≡ is_some (shown b.now).name }
-{
-    0 < own_place(b)
-}
-
-// The own name; empty where there is none.
-pub fn own_name(b: &[u8]) -> &[u8]
+// The own name, if there is one.
+#[tactic(auto, using(crate::proofs::Own::own_shown))]
+pub fn own_name(b: &[u8]) -> Option<&[u8]>
     requires { entry_at (own_number b.now) ≤ length b.now }
-    ensures { result.now ≡ name_or (shown b.now).name }
+    ensures { option_copied result ≡ (shown b.now).name }
 {
-    let own = own_place(b);
-    if own == 0 {
-        return text::part(b, 0, 0);
-    }
-    name_at(b, own - 1)
+    let place = own_place(b)?;
+    Some(name_at(b, place))
 }
 
 // How many pairs of a kind there are.

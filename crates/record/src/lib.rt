@@ -12,13 +12,13 @@ mod validity;
 mod writing;
 
 pub use layout::{
-    Head, Part, bodies_at, body_length, body_start, has_name, name_at, name_count, name_in,
-    own_name, own_place, pair_at, pair_count, pair_from, pair_to, part_of, table_at,
+    Head, bodies_at, body_length, body_start, name_at, name_count, name_in, own_name, own_place,
+    pair_at, pair_count, pair_from, pair_to, part_of, table_at,
 };
 pub use offsets::{
     MAX_BODIES_BYTES, MAX_NAME_BYTES, MAX_NAMES, MAX_PAIRS, PAIR_LENGTH, RECORD_LENGTH,
     empty_record,
 };
 pub use reader::{Reader, head, head_at, open, part, part_at};
-pub use validity::{fault, fault_of_both, is_record};
+pub use validity::{check, check_both, is_record};
 pub use writing::{write_counts, write_entry, write_pair};

@@ -4,7 +4,8 @@ ghost use Rattle.std.specs.Prelude.{◌≡◌, ◌+◌, ◌≤◌, length};
 ghost use Rattle.model.specs.Layout.{counts_length, entry_length, entry_at};
 ghost use Rattle.record.specs.Reader.{Opened, IsHead, IsPart};
 
-use crate::layout::{Head, Part, part_of};
+use crate::layout::{Head, part_of};
+use model::Part;
 use text::read16;
 
 // A buffer with room for the counts, and what it counts in its first eight bytes: its names; the own name, by its place counted from 1, or 0

@@ -1,8 +1,8 @@
-// Whether a buffer is a record, from the tests of its parts; and the number of what is wrong with it.
+// Whether a buffer is a record, from the tests of its parts; and what is wrong with it.
 ghost use Rattle.std.specs.Prelude.{◌≡◌, ◌+◌, ◌≤◌, length};
 ghost use Rattle.model.specs.Record.{max_names, max_pairs};
 ghost use Rattle.model.specs.Layout.{bodies_after, decode};
-ghost use Rattle.model.specs.Opening.{is_some, fault_of, fault_of_both};
+ghost use Rattle.model.specs.Opening.{is_some, check_of, check_of_both};
 ghost use Rattle.record.specs.Test.{counts_ok, tables_ok};
 
 use crate::offsets::{
@@ -10,6 +10,7 @@ use crate::offsets::{
 };
 use crate::reader::head_at;
 use crate::test::{all_used, body_end, names_ascend, pairs_ok};
+use model::Fault;
 
 // Whether the pairs of both kinds are right, the names ascend and all are used, in a buffer whose counts are within the sizes.
 fn tables_ok(b: &[u8], n: usize, own: usize, s: usize, t: usize) -> bool
@@ -73,30 +74,38 @@ pub fn is_record(b: &[u8]) -> bool
     text::zeros_from(b, bodies + end)
 }
 
-// What is wrong with a buffer, as a number: 15 for its length, 16 for its contents, 0 for nothing.
-#[tactic(auto, using(crate::proofs::Opening::fault_tested))]
-pub fn fault(b: &[u8]) -> u32
-    ensures { result ≡ fault_of b.now }
+// What is wrong with a buffer: its length, or else its contents.
+#[tactic(auto, using(crate::proofs::Opening::check_tested))]
+pub fn check(b: &[u8]) -> Result<(), Fault>
+    ensures { result ≡ check_of b.now }
 {
     if b.len() != RECORD_LENGTH {
-        return 15;
+        return Err(Fault::WrongBuffer);
     }
-    if is_record(b) { 0 } else { 16 }
+    if is_record(b) {
+        Ok(())
+    } else {
+        Err(Fault::NotARecord)
+    }
 }
 
-// What is wrong with one of two buffers, as a number: 15 for the length of either, then 16, or 0.
-#[tactic(auto, using(crate::proofs::Opening::faults_tested))]
-pub fn fault_of_both(b: &[u8], c: &[u8]) -> u32
-    ensures { result ≡ fault_of_both b.now c.now }
+// What is wrong with one of two buffers: the length of either, or else the contents of either.
+#[tactic(auto, using(crate::proofs::Opening::checks_tested))]
+pub fn check_both(b: &[u8], c: &[u8]) -> Result<(), Fault>
+    ensures { result ≡ check_of_both b.now c.now }
 {
     if b.len() != RECORD_LENGTH {
-        return 15;
+        return Err(Fault::WrongBuffer);
     }
     if c.len() != RECORD_LENGTH {
-        return 15;
+        return Err(Fault::WrongBuffer);
     }
     if !is_record(b) {
-        return 16;
+        return Err(Fault::NotARecord);
     }
-    if is_record(c) { 0 } else { 16 }
+    if is_record(c) {
+        Ok(())
+    } else {
+        Err(Fault::NotARecord)
+    }
 }

@@ -14,7 +14,8 @@ use Rattle.model.specs.Bytes.{Bytes, compare_bytes}
 use Rattle.model.specs.Statements.{Ascending}
 use Rattle.model.specs.Questions.{mapped}
 use Rattle.model.specs.TagList.{Tag, tag, compare_tags, look_up, set_tag, remove_tag, tag_bodies}
-use Rattle.model.specs.TagOutcome.{TagParts, behind, parts_with}
+use Rattle.model.specs.declared.holdings.TagParts.{TagParts}
+use Rattle.model.specs.TagOutcome.{behind, parts_with}
 use Rattle.text.proofs.Order.{same_bytes_true, same_bytes_false}
 use Rattle.text.proofs.Ascending.{ascending_tail}
 use Rattle.tag_list.specs.Spot.{spot}

@@ -1,7 +1,7 @@
 -- What each case of an answer means: a refusal's number, or the values.
 use Rattle.std.specs.Prelude.{Option, Some, None, ℕ, Ok, Err}
 use Rattle.model.specs.Opening.{Given}
-use Rattle.model.specs.TagOutcome.{TagParts}
+use Rattle.model.specs.declared.holdings.TagParts.{TagParts}
 use Rattle.tag_list.specs.declared.look_up.GivenCount.{GivenCount}
 use Rattle.tag_list.specs.declared.look_up.GivenCount.TheVariants as count
 use Rattle.tag_list.specs.declared.look_up.GivenTag.{GivenTag}
