@@ -1,9 +1,7 @@
 -- Ascending numbers and what is put into them; names and pairs put into the tables.
-pub mod Gap
 pub mod Lower
 pub mod Splice
 pub mod Renumber
-pub mod Front
 pub mod Search
 pub mod Bodies
 pub mod Pairs

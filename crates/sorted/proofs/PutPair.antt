@@ -1,9 +1,10 @@
 -- A pair put into the tables: its two names first, then the number of their places.
 use mathlib.Core.Path.{◌≡◌, refl, sym, ap, ◌∙◌}
 use mathlib.Core.Logic.{◌⊎◌, inl, inr, ⊎_elim}
-use mathlib.Core.Bool.{Bool, true, false}
 use mathlib.Core.List.{List, [], ◌∷◌, map, Memᴰ}
-use Rattle.std.specs.Prelude.{None}
+use Rattle.std.specs.Prelude.{Result, Ok, Err, None}
+use Rattle.std.specs.List.{insert as inserted}
+use Rattle.std.proofs.lemmas.List.Edits.{length-insert}
 use Prim.Native.Nat.{ℕ, suc, ◌+◌, ◌*◌, ◌/◌, ◌%◌, ◌≤◌, ◌<◌}
 use native.Mathlib.Omega.{arith}
 use lib.ListN.{length, take, get_or}
@@ -21,15 +22,13 @@ use Rattle.record.proofs.Places.{compare_places, under_pair}
 use Rattle.text.proofs.Order.{StrictOrder, opposite, numbers_order, bytes_order, less_numbers, equal_numbers, greater_numbers, compared_numbers}
 use Rattle.text.proofs.Ascending.{insert_ascending, insert_member}
 use Rattle.text.proofs.Places.{ascending_places}
-use Rattle.sorted.specs.Sorted.{lower, spliced, place_after}
-use Rattle.sorted.specs.Tables.{Tables, tables, table_names, graph_in, places_of, pairs_in, holds_at, KeptPairs, NamePut, PairPut}
+use Rattle.sorted.specs.Sorted.{lower, sought, place_after}
+use Rattle.sorted.specs.Tables.{Tables, tables, table_names, graph_in, places_of, pairs_in, KeptPairs, NamePut, PairPut}
 use Rattle.sorted.proofs.Bodies.{first_of, second_of}
-use Rattle.sorted.proofs.Lower.{lower_le, insert_new, insert_there}
-use Rattle.sorted.proofs.Splice.{length_spliced}
+use Rattle.sorted.proofs.Lower.{lower_le, found, missing}
 use Rattle.sorted.proofs.Renumber.{Small, above_le, small_member, name_raised}
 use Rattle.sorted.proofs.Search.{length_names}
 use Rattle.sorted.proofs.Pairs.{insert_map}
-use Rattle.sorted.proofs.PutName.{holds_true, holds_false}
 
 -- ------------------------------------------------------------------ the places of the names
 
@@ -48,33 +47,32 @@ module _ {A : Type 0} {cmp : A → A → Ordering} (ord : StrictOrder cmp) (d x 
       go Greater e r = (omega arith, r.1)
 
 -- the names with one more: as many as before, or one more
-grown_or_not : (name : Bytes) (ns : List Bytes) → Ascending compare_bytes ns
-    → (insert compare_bytes name ns ≡ ns) ⊎ (insert compare_bytes name ns ≡ spliced (lower compare_bytes name ns) name ns)
-grown_or_not name ns a = go (holds_at ns (lower compare_bytes name ns) name) refl
+grown_or_not : (name : Bytes) (ns : List Bytes)
+    → (insert compare_bytes name ns ≡ ns) ⊎ (insert compare_bytes name ns ≡ inserted ns (lower compare_bytes name ns) name)
+grown_or_not name ns = go (sought compare_bytes name ns) refl
   where
-    go : (t : Bool) → holds_at ns (lower compare_bytes name ns) name ≡ t
-        → (insert compare_bytes name ns ≡ ns) ⊎ (insert compare_bytes name ns ≡ spliced (lower compare_bytes name ns) name ns)
-    go true e = let (l, d) = holds_true ns (lower compare_bytes name ns) name e in inl (insert_there bytes_order [] name ns (lower compare_bytes name ns) a l d)
-    go false e = inr (insert_new bytes_order [] name ns a (holds_false ns (lower compare_bytes name ns) name e))
+    go : (r : Result ℕ ℕ) → r ≡ sought compare_bytes name ns → (insert compare_bytes name ns ≡ ns) ⊎ (insert compare_bytes name ns ≡ inserted ns (lower compare_bytes name ns) name)
+    go (Ok p) e = inl (found bytes_order [] name ns p e).insert
+    go (Err p) e = let m = missing bytes_order [] name ns p e in inr (rw m.place at m.insert)
 
 -- another name's place after that
 pub place_after_lem : (name : Bytes) (ns : List Bytes) (i : ℕ) → Ascending compare_bytes ns → i < length ns
     → (place_after (length ns) (length (insert compare_bytes name ns)) (lower compare_bytes name ns) i < length (insert compare_bytes name ns))
     × (name_in (insert compare_bytes name ns) (place_after (length ns) (length (insert compare_bytes name ns)) (lower compare_bytes name ns) i) ≡ name_in ns i)
-place_after_lem name ns i a h = ⊎_elim same more (grown_or_not name ns a)
+place_after_lem name ns i a h = ⊎_elim same more (grown_or_not name ns)
   where
     same : insert compare_bytes name ns ≡ ns
         → (place_after (length ns) (length (insert compare_bytes name ns)) (lower compare_bytes name ns) i < length (insert compare_bytes name ns))
         × (name_in (insert compare_bytes name ns) (place_after (length ns) (length (insert compare_bytes name ns)) (lower compare_bytes name ns) i) ≡ name_in ns i)
     same e = rw (e, eq-eqb (length ns) (length ns) refl) (h, refl)
 
-    more : insert compare_bytes name ns ≡ spliced (lower compare_bytes name ns) name ns
+    more : insert compare_bytes name ns ≡ inserted ns (lower compare_bytes name ns) name
         → (place_after (length ns) (length (insert compare_bytes name ns)) (lower compare_bytes name ns) i < length (insert compare_bytes name ns))
         × (name_in (insert compare_bytes name ns) (place_after (length ns) (length (insert compare_bytes name ns)) (lower compare_bytes name ns) i) ≡ name_in ns i)
     more e =
         let l = lower_le compare_bytes name ns in
         let u = above_le (lower compare_bytes name ns) i in
-        rw (e, length_spliced name (lower compare_bytes name ns) ns l, ne_eqb (length ns) (suc (length ns)) (λ d. omega arith))
+        rw (e, length-insert ns (lower compare_bytes name ns) name l, ne_eqb (length ns) (length ns + 1) (λ d. omega arith))
         (omega arith, name_raised name (lower compare_bytes name ns) ns i l)
 
 same_after : (i : ℕ) {m n p m' n' p' : ℕ} → m ≡ m' → n ≡ n' → p ≡ p' → place_after m n p i ≡ place_after m' n' p' i

@@ -4,13 +4,12 @@ use mathlib.Core.Path.{◌≡◌, refl, ap, ap₂, ◌∙◌}
 use mathlib.Core.Logic.{◌⊎◌, inl, inr, ⊎_elim}
 use mathlib.Core.Bool.{Bool, true, false, cond}
 use mathlib.Core.List.Memᴰ
-use mathlib.Core.List.{List, [], ◌∷◌, map, Memᴰ}
-use Prim.Native.Nat.{ℕ, ◌+◌, ◌*◌, ◌/◌, ◌%◌, ◌≤◌, ◌<◌}
+use mathlib.Core.List.{List, [], ◌∷◌, ◌++◌, map, Memᴰ}
+use Prim.Native.Nat.{ℕ, ◌+◌, ◌-◌, ◌*◌, ◌/◌, ◌%◌, ◌≤◌, ◌<◌}
 use native.Mathlib.Omega.{arith}
-use native.Mathlib.Numerals.{add-one}
 use native.Mathlib.Nat.{add-zero}
-use lib.ListN.{length, take, get_or}
-use lib.Seq.{length-take-le, get_or-take}
+use lib.ListN.{length, take, drop, get_or, length-map}
+use lib.Seq.{length-take-le}
 use lib.Dec.{leb, ltb}
 use borrow.Author.Tests.{leb-true, leb-false, ltb-true, ltb-false}
 use Rattle.std.specs.declared.cmp.Ordering.{Ordering}
@@ -22,9 +21,11 @@ use Rattle.record.specs.Coded.{name_in, pair_in}
 use Rattle.text.proofs.Order.{less_numbers, equal_numbers, greater_numbers, compared_numbers}
 use Rattle.text.proofs.Ascending.{ascends_true}
 use Rattle.text.proofs.Places.{ascends_map, get_or_member}
-use Rattle.sorted.specs.Sorted.{spliced, above, renumbered}
-use Rattle.sorted.specs.Tables.{places_of, pairs_in}
-use Rattle.sorted.proofs.Splice.{get_or_before, get_or_behind}
+use Rattle.std.specs.List.{insert as inserted}
+use Rattle.std.proofs.lemmas.List.{get_or-append_right, get_or-drop}
+use Rattle.std.proofs.lemmas.List.Edits.{get_or-insert_below, get_or-insert_above}
+use Rattle.sorted.specs.Sorted.{above, renumbered}
+use Rattle.sorted.specs.Tables.{places_of}
 
 -- a place after a name came in at place p
 abbrev pub raised : ℕ → ℕ → ℕ
@@ -107,9 +108,15 @@ unfolding Under
 small_member n [] x u m = absurd (Memᴰ.not-nil m)
 small_member n (y ∷ ys) x u m = ⊎_elim (λ (e : x ≡ y). rw e (u.0, u.1)) (small_member n ys x u.2) (Memᴰ.cases_cons m)
 
-pub small_at : (m n : ℕ) (a : List ℕ) (i : ℕ) → n ≤ length a → Under m (pairs_in n a) → i < n → Small m (get_or a i 0)
-small_at m n a i h u k =
-    rw (get_or-take n a i 0 k) at (small_member m (take n a) (get_or (take n a) i 0) u (get_or_member 0 (take n a) i (rw (length-take-le n a h) k)))
+-- so are those of a number that is not renumbered yet, while those before it are
+pub small_next : (p i : ℕ) (xs ys : List ℕ) → Under 65535 (map places_of xs) → i < length xs → ys ≡ map (renumbered p) (take i xs) ++ drop i xs
+    → Small 65535 (get_or ys i 0)
+small_next p i xs ys u h e =
+    let l = length-take-le i xs (omega arith) in
+    let n : length (map (renumbered p) (take i xs)) ≡ i = length-map (take i xs) (renumbered p) ∙ l in
+    let z : i + (i - i) ≡ i = omega arith in
+    rw (e, get_or-append_right (map (renumbered p) (take i xs)) (drop i xs) i i 0 n (omega arith), get_or-drop, z)
+    (small_member 65535 xs (get_or xs i 0) u (get_or_member 0 xs i h))
 
 pub renumbered_ascending : (p : ℕ) (xs : List ℕ) → Under 65535 (map places_of xs) → Ascending compare_numbers xs
     → Ascending compare_numbers (map (renumbered p) xs)
@@ -134,18 +141,18 @@ renumbered_under p n (x ∷ xs) h u =
     )
 
 -- the name at the new place is the name that stood at the old one
-pub name_raised : (a : Bytes) (p : ℕ) (ns : List Bytes) (q : ℕ) → p ≤ length ns → name_in (spliced p a ns) (raised p q) ≡ name_in ns q
+pub name_raised : (a : Bytes) (p : ℕ) (ns : List Bytes) (q : ℕ) → p ≤ length ns → name_in (inserted ns p a) (raised p q) ≡ name_in ns q
 name_raised a p ns q h =
     ⊎_elim
-    (λ (c : (p ≤ q) × (above p q ≡ 1)). rw (c.1, add-one q) (get_or_behind a [] p ns q h c.0))
-    (λ (c : (q < p) × (above p q ≡ 0)). rw (c.1, add-zero q) (get_or_before a [] p ns q h c.0))
+    (λ (c : (p ≤ q) × (above p q ≡ 1)). rw c.1 (get_or-insert_above ns p a [] q c.0 h))
+    (λ (c : (q < p) × (above p q ≡ 0)). rw (c.1, add-zero q) (get_or-insert_below ns p a [] q c.0 h))
     (raises p q)
 
 pub renumbered_pairs : (a : Bytes) (p n : ℕ) (ns : List Bytes) (xs : List ℕ) → p ≤ length ns → n < 65536 → Under n (map places_of xs)
-    → map (pair_in (spliced p a ns)) (map places_of (map (renumbered p) xs)) ≡ map (pair_in ns) (map places_of xs)
+    → map (pair_in (inserted ns p a)) (map places_of (map (renumbered p) xs)) ≡ map (pair_in ns) (map places_of xs)
 unfolding Under
 renumbered_pairs a p n ns [] h k u = refl
 renumbered_pairs a p n ns (x ∷ xs) h k u =
     let e = renumbered_places p x (omega arith, omega arith) in
-    ap₂ ◌∷◌ (ap (pair_in (spliced p a ns)) e ∙ (λ i. record { from = name_raised a p ns (x / 65536) h i; to = name_raised a p ns (x % 65536) h i }))
+    ap₂ ◌∷◌ (ap (pair_in (inserted ns p a)) e ∙ (λ i. record { from = name_raised a p ns (x / 65536) h i; to = name_raised a p ns (x % 65536) h i }))
     (renumbered_pairs a p n ns xs h k u.2)

@@ -1,5 +1,5 @@
--- Ascending lists by place: where an element stands or would stand, and putting one in there. And places after a name came in.
-use Rattle.std.specs.Prelude.{cond, List, [], ◌∷◌, ◌++◌, ℕ, suc, ◌+◌, ◌*◌, ◌/◌, ◌%◌, take, drop, leb, eqb}
+-- Ascending lists by place: where an element stands or would stand, and what a search for it answers. And places after a name came in.
+use Rattle.std.specs.Prelude.{cond, List, [], ◌∷◌, ℕ, suc, ◌+◌, ◌*◌, ◌/◌, ◌%◌, leb, eqb, Result, Ok, Err}
 use Rattle.std.specs.declared.cmp.Ordering.{Ordering}
 use Rattle.model.specs.Bytes.{by_order}
 
@@ -8,9 +8,15 @@ unfoldable pub lower : {A : Type 0} → (A → A → Ordering) → A → List A 
 lower cmp x [] = 0
 lower cmp x (y ∷ ys) = by_order (cmp y x) (suc (lower cmp x ys)) 0 0
 
--- x at place p, what stood there and behind it one place on
-unfoldable pub spliced : {A : Type 0} → ℕ → A → List A → List A
-spliced p x xs = take p xs ++ (x ∷ drop p xs)
+-- an answer one place on
+abbrev pub one_on : Result ℕ ℕ → Result ℕ ℕ
+one_on (Ok p) = Ok (suc p)
+one_on (Err p) = Err (suc p)
+
+-- what a search for x in an ascending list answers: the place of x, or the place where it would stand
+unfoldable pub sought : {A : Type 0} → (A → A → Ordering) → A → List A → Result ℕ ℕ
+sought cmp x [] = Err 0
+sought cmp x (y ∷ ys) = by_order (cmp y x) (one_on (sought cmp x ys)) (Ok 0) (Err 0)
 
 -- what a place of p or more goes up by
 abbrev pub above : ℕ → ℕ → ℕ

@@ -1,15 +1,14 @@
 -- The working tables, and the graph name that they show. Names are numbers, start * 65536 + length, of bodies in a pool; pairs are
 -- numbers, first place * 65536 + second place.
-use Rattle.std.specs.Prelude.{◌≡◌, Bool, false, cond, ℕ, ◌+◌, ◌/◌, ◌%◌, ◌≤◌, ◌<◌, length, take, drop, ltb}
+use Rattle.std.specs.Prelude.{◌≡◌, false, ℕ, ◌+◌, ◌/◌, ◌%◌, ◌≤◌, ◌<◌, length, take, drop}
 use mathlib.Core.List.{List, map, Memᴰ}
-use Rattle.model.specs.Bytes.{Bytes, compare_numbers, compare_bytes, same_bytes}
+use Rattle.model.specs.Bytes.{Bytes, compare_numbers, compare_bytes}
 use Rattle.model.specs.Record.{GraphName, insert, with_pair, any_long, bodies, max_name_bytes}
 use Rattle.model.specs.declared.Kind.{Kind}
 use Rattle.model.specs.Statements.{Ascending}
 use Rattle.record.specs.Test.{Under}
-use Rattle.record.specs.Coded.{Coded, name_in, meaning}
+use Rattle.record.specs.Coded.{Coded, meaning}
 use Rattle.sorted.specs.declared.putting.Sizes.{Sizes}
-use Rattle.sorted.specs.declared.putting.Sought.{Sought}
 use Rattle.sorted.specs.Sorted.{lower}
 
 -- the tables, of which as much is in use as the sizes say
@@ -37,16 +36,6 @@ names_in pool n refs = map (body_in pool) (take n refs)
 
 abbrev pub pairs_in : ℕ → List ℕ → List (ℕ × ℕ)
 pairs_in n xs = map places_of (take n xs)
-
--- the name at place p is `name`
-abbrev pub holds_at : List Bytes → ℕ → Bytes → Bool
-holds_at ns p name = cond (ltb p (length ns)) (same_bytes (name_in ns p) name) false
-
--- what a search for a name among n names tells
-pub record Seeks (ns : List Bytes) (n : ℕ) (name : Bytes) (s : Sought) : Type 0 where
-  pub place : s.place ≡ lower compare_bytes name ns
-  pub there : s.there ≡ holds_at ns s.place name
-  pub within : s.place ≤ n
 
 abbrev pub table_names : Tables → List Bytes
 table_names t = names_in t.pool t.sizes.names t.refs

@@ -4,4 +4,4 @@
 mod numbers;
 mod putting;
 
-pub use putting::{PlacedName, Sizes, body, is_at, name_place, put_name, put_pair};
+pub use putting::{PlacedName, Sizes, body, put_name, put_pair, seek};

@@ -1,16 +1,16 @@
 // The working tables: names as ascending numbers for bodies in a pool, pairs of either kind as ascending numbers of two places.
 ghost use Rattle.std.specs.Prelude.{◌≡◌, ◌≤◌, ◌<◌, length};
+ghost use Rattle.std.specs.List.Sorted.{IsSearchInRange};
 ghost use Rattle.model.specs.Bytes.{compare_bytes};
 ghost use Rattle.model.specs.Statements.{Ascending};
-ghost use Rattle.sorted.specs.Sorted.{lower, place_after};
-ghost use Rattle.sorted.specs.Tables.{tables, body_in, names_in, holds_at, Kept, NameRoom, PairRoom, NamePut, PairPut, Seeks};
+ghost use Rattle.sorted.specs.Sorted.{sought, place_after};
+ghost use Rattle.sorted.specs.Tables.{tables, body_in, names_in, Kept, NameRoom, PairRoom, NamePut, PairPut};
 
 use crate::numbers::{insert_at, put_number, renumber};
 use model::Kind;
-use std::cmp::Ordering;
 
 // How much of the tables is in use: names, bytes of the pool, and pairs of each kind.
-#[derive(Clone, Copy)]
+#[derive(Clone, Copy, Debug, Default, PartialEq, Eq)]
 pub struct Sizes {
     pub names: usize,
     pub bytes: usize,
@@ -19,17 +19,10 @@ pub struct Sizes {
 }
 
 // The place of a name in the tables, and how much of them is in use.
-#[derive(Clone, Copy)]
+#[derive(Clone, Copy, Debug, PartialEq, Eq)]
 pub struct PlacedName {
     pub place: usize,
     pub sizes: Sizes,
-}
-
-// Where a name stands or would stand among others, and whether it is there.
-#[derive(Clone, Copy)]
-pub struct Sought {
-    pub place: usize,
-    pub there: bool,
 }
 
 // The body that a number of the table of names stands for.
@@ -39,61 +32,23 @@ pub fn body(pool: &[u8], r: u32) -> &[u8]
     text::part(pool, (r / 65536) as usize, (r % 65536) as usize)
 }
 
-// Looks for a name among the n names, which ascend.
-fn seek(refs: &[u32], pool: &[u8], n: usize, name: &[u8]) -> Sought
+// Looks for a name among the n names, which ascend: gives its place, or the place where it would stand.
+pub fn seek(refs: &[u32], pool: &[u8], n: usize, name: &[u8]) -> Result<usize, usize>
     requires { (n ≤ length refs.now) × Ascending compare_bytes (names_in pool.now n refs.now) }
-    ensures { Seeks (names_in pool.now n refs.now) n name.now result }
+    ensures bound { IsSearchInRange result n }
+    ensures value { result ≡ sought compare_bytes name.now (names_in pool.now n refs.now) }
 {
-    let mut lo = 0;
-    let mut hi = n;
-    while lo < hi {
-        let mid = lo + (hi - lo) / 2;
-        match text::compare(body(pool, refs[mid]), name) {
-            Ordering::Less => lo = mid + 1,
-            Ordering::Equal => {
-                return Sought {
-                    place: mid,
-                    there: true,
-                };
-            }
-            Ordering::Greater => hi = mid,
-        }
-    }
-    Sought {
-        place: lo,
-        there: false,
-    }
-}
-
-// How many of the n names, which ascend, are less than `name`.
-pub fn name_place(refs: &[u32], pool: &[u8], n: usize, name: &[u8]) -> usize
-    requires { (n ≤ length refs.now) × Ascending compare_bytes (names_in pool.now n refs.now) }
-    ensures { (result ≡ lower compare_bytes name.now (names_in pool.now n refs.now)) × (result ≤ n) }
-{
-    seek(refs, pool, n, name).place
-}
-
-// Whether `name` stands at place p of the n names.
-pub fn is_at(refs: &[u32], pool: &[u8], n: usize, p: usize, name: &[u8]) -> bool
-    requires { n ≤ length refs.now }
-    ensures { result ≡ holds_at (names_in pool.now n refs.now) p name.now }
-{
-    if n <= p {
-        return false;
-    }
-    text::same(body(pool, refs[p]), name)
+    refs[..n].binary_search_by(|r| text::compare(body(pool, *r), name))
 }
 
 // Looks for a name among the n names, which ascend, at one place first.
-fn seek_near(refs: &[u32], pool: &[u8], n: usize, near: usize, name: &[u8]) -> Sought
+fn seek_near(refs: &[u32], pool: &[u8], n: usize, near: usize, name: &[u8]) -> Result<usize, usize>
     requires { (n ≤ length refs.now) × Ascending compare_bytes (names_in pool.now n refs.now) }
-    ensures { Seeks (names_in pool.now n refs.now) n name.now result }
+    ensures bound { IsSearchInRange result n }
+    ensures value { result ≡ sought compare_bytes name.now (names_in pool.now n refs.now) }
 {
-    if is_at(refs, pool, n, near, name) {
-        return Sought {
-            place: near,
-            there: true,
-        };
+    if near < n && text::same(body(pool, refs[near]), name) {
+        return Ok(near);
     }
     seek(refs, pool, n, name)
 }
@@ -114,26 +69,22 @@ pub fn put_name(
 {
     let n = sizes.names;
     let at = sizes.bytes;
-    let sought = seek_near(refs, pool, n, near, name);
-    let p = sought.place;
-    if sought.there {
-        return PlacedName {
-            place: p,
-            sizes: sizes,
-        };
-    }
-    let end = text::copy(pool, at, name);
-    insert_at(refs, n, p, (at * 65536 + name.len()) as u32);
-    renumber(subs, sizes.subgraph, p as u32);
-    renumber(trans, sizes.translation, p as u32);
-    PlacedName {
-        place: p,
-        sizes: Sizes {
-            names: n + 1,
-            bytes: end,
-            subgraph: sizes.subgraph,
-            translation: sizes.translation,
-        },
+    match seek_near(refs, pool, n, near, name) {
+        Ok(place) => PlacedName { place, sizes },
+        Err(place) => {
+            let end = text::copy(pool, at, name);
+            insert_at(refs, n, place, (at * 65536 + name.len()) as u32);
+            renumber(subs, sizes.subgraph, place as u32);
+            renumber(trans, sizes.translation, place as u32);
+            PlacedName {
+                place,
+                sizes: Sizes {
+                    names: n + 1,
+                    bytes: end,
+                    ..sizes
+                },
+            }
+        }
     }
 }
 
@@ -145,18 +96,14 @@ fn moved_place(x: usize, p: usize, before: usize, now: usize) -> usize
     if before == now {
         return x;
     }
-    if p <= x { x + 1 } else { x }
+    x + usize::from(p <= x)
 }
 
 // The first place of the last of n pairs, or 0 where there is none.
 fn last_from(pairs: &[u32], n: usize) -> usize
     requires { n ≤ length pairs.now }
 {
-    if n == 0 {
-        return 0;
-    }
-    let x = pairs[n - 1] as usize;
-    x / 65536
+    pairs[..n].last().map_or(0, |pair| *pair as usize / 65536)
 }
 
 // The first place of the last pair of a kind: in relations that are in order the next one often begins there too.
@@ -191,16 +138,12 @@ pub fn put_pair(
     let pair = (x * 65536 + b.place) as u32;
     match kind {
         Kind::Subgraph => Sizes {
-            names: b.sizes.names,
-            bytes: b.sizes.bytes,
             subgraph: put_number(subs, b.sizes.subgraph, pair),
-            translation: b.sizes.translation,
+            ..b.sizes
         },
         Kind::Translation => Sizes {
-            names: b.sizes.names,
-            bytes: b.sizes.bytes,
-            subgraph: b.sizes.subgraph,
             translation: put_number(trans, b.sizes.translation, pair),
+            ..b.sizes
         },
     }
 }

@@ -1,28 +1,12 @@
-use Rattle.std.proofs.Common.{rules, arith, get_or}
+use Rattle.std.proofs.Common.{arith, take}
+use Rattle.std.proofs.lemmas.List.{get_or_default}
+use Rattle.std.proofs.lemmas.List.Edits.{map_over_more}
 use Rattle.sorted.specs.Sorted.{renumbered}
-use Rattle.sorted.proofs.Renumber.{Small, small_at}
-use Rattle.sorted.proofs.Front.{get_or_front, front_turn}
+use Rattle.sorted.proofs.Renumber.{small_next}
 use Rattle.sorted.proofs.numbers.renumber.Goals as goal
-use Rattle.sorted.proofs.numbers.renumber.Goals.{After-step}
 
--- the places read are far from the largest
-small : (c : After-step) → Small 65535 (get_or c.loop-i.a c.loop-i.i 0)
-small c =
-    let a = c.args in
-    rw (c.loop-i.invariant.pairs, get_or_front (renumbered a.p) 0 c.loop-i.i a.a.now (omega arith))
-    (small_at 65535 a.n a.a.now c.loop-i.i (search rules) c.requires.1 c.loop-i-test.true)
+pub renumbered-requires : goal.renumbered-requires
+renumbered-requires c = small_next c.args.p c.loop-pair.pair-index (take c.args.n c.args.a.now) _ c.requires.1 c.loop-pair-test.true c.loop-pair.invariant
 
-pub overflow_add-a : goal.overflow_add-a
-overflow_add-a c = let s = small c in omega arith
-
-pub overflow_add-a-in-loop-i : goal.overflow_add-a-in-loop-i
-overflow_add-a-in-loop-i c = let s = small (goal.at.overflow_add-a-in-loop-i c).After-step in omega arith
-
-pub loop-i-preserved : goal.loop-i-preserved
-loop-i-preserved c =
-    let l = c.loop-i in
-    record {
-      within = omega arith;
-      pairs = front_turn (renumbered c.args.p) 0 l.i c.args.a.now l.a _ (omega arith) l.invariant.pairs
-          (unfold renumbered in rw (c.step.ensures.0, c.step-in-loop-i.ensures.0));
-    }
+pub loop-pair-preserved : goal.loop-pair-preserved
+loop-pair-preserved c = rw c.renumbered.ensures (map_over_more (renumbered c.args.p) (take c.args.n c.args.a.now) _ _ _ c.loop-pair-test.true c.loop-pair.invariant (get_or_default c.loop-pair.pair-items c.loop-pair.pair-index 0 _ (omega arith)))

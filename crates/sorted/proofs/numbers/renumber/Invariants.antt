@@ -1,11 +1,7 @@
--- The first i pairs are renumbered, and the others are as they were.
-use Rattle.std.proofs.Common.{◌≡◌, ◌≤◌, ◌-◌}
+-- The first pairs are renumbered, and the others are as they were.
+use Rattle.std.proofs.Common.{◌≡◌, ◌++◌, map, take, drop}
 use Rattle.sorted.specs.Sorted.{renumbered}
-use Rattle.sorted.proofs.Front.{front}
 use Rattle.sorted.proofs.numbers.renumber.Given as goal
 
-abbrev pub invariant-loop-i : goal.invariant-loop-i
-invariant-loop-i l = record { within : l.i ≤ l.n; pairs : l.a ≡ front (renumbered l.p) 0 l.i l.fn.a }
-
-abbrev pub decreases-loop-i : goal.decreases-loop-i
-decreases-loop-i l = l.n - l.i
+abbrev pub invariant-loop-pair : goal.invariant-loop-pair
+invariant-loop-pair l = l.pair-items ≡ map (renumbered l.p) (take l.pair-index l.initial.pair-items) ++ drop l.pair-index l.initial.pair-items

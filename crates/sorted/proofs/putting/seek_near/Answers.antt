@@ -1,11 +1,10 @@
 -- It stands at the place looked at first, or the search tells.
-use Rattle.std.proofs.Common.{◌∙◌, sym, arith}
-use Rattle.sorted.proofs.PutName.{found_place}
+use Rattle.std.proofs.Common.{sym}
+use Rattle.sorted.proofs.Search.{found_near}
 use Rattle.sorted.proofs.putting.seek_near.Goals as goal
 
-pub returns-then-is_at : goal.returns-then-is_at
-returns-then-is_at c =
+pub returns-then-same-clause-value : goal.returns-then-same-clause-value
+returns-then-same-clause-value c =
     let a = c.args in
-    let h = sym c.is_at.ensures ∙ c.if-is_at.true in
-    let f = found_place a.name.now a.pool.now a.refs.now a.n a.near c.requires.0 c.requires.1 h in
-    record { place = f.0; there = sym h; within = omega (arith, f.1) }
+    found_near a.name.now a.pool.now a.refs.now a.n c.requires.0 c.requires.1 a.near c.if-near-n.true
+    (rw (c.body.ensures, c.if-same.true) at (sym c.same.ensures))
