@@ -20,3 +20,4 @@ pub mod Access
 pub mod Empty
 pub mod Refusals
 pub mod Parts
+pub mod Meaning

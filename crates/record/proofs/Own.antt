@@ -20,6 +20,11 @@ own_shown b = go (own_number b)
     go zero = refl
     go (suc i) = refl
 
+-- the number of a place is one more
+pub number_placed : (n i : ℕ) → place_numbered n ≡ Some i → n ≡ suc i
+number_placed zero i e = absurd cc
+number_placed (suc j) i e = cc
+
 -- a name that is there, and one that is not
 pub named : (o : Option Bytes) → is_some o ≡ true → o ≡ Some (name_or o)
 named None e = let k : ◌≡◌ {A = ℕ} 0 1 = cc in absurd (omega arith)

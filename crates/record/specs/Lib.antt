@@ -2,3 +2,4 @@
 pub mod Test
 pub mod Coded
 pub mod Reader
+pub mod Holds

@@ -7,6 +7,7 @@
 mod layout;
 mod offsets;
 mod reader;
+mod record;
 mod test;
 mod validity;
 mod writing;
@@ -20,5 +21,6 @@ pub use offsets::{
     empty_record,
 };
 pub use reader::{Reader, head, head_at, open, part, part_at};
+pub use record::Record;
 pub use validity::{check, check_both, is_record};
 pub use writing::{write_counts, write_entry, write_pair};

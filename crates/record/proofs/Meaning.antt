@@ -1,0 +1,70 @@
+-- What is read of a record at known places, by the graph name that it means.
+use mathlib.Core.Path.{◌≡◌, sym, ap, ◌∙◌}
+use Rattle.std.specs.Prelude.{Some, None, Ok, slice_get}
+use Prim.Native.Nat.{ℕ, ◌+◌, ◌*◌, ◌≤◌, ◌<◌}
+use native.Mathlib.Omega.{arith}
+use lib.ListN.{length}
+use Rattle.model.specs.declared.Kind.{Kind}
+use Rattle.model.specs.declared.holdings.Part.{Part}
+use Rattle.model.specs.Bytes.{Bytes}
+use Rattle.model.specs.Record.{names}
+use Rattle.model.specs.Layout.{pair_length, entry_length, entry_at, name_count, own_number, pair_count, table_at, from_place, to_place, shown}
+use Rattle.model.specs.Opening.{check_of, check_of_both}
+use Rattle.model.specs.Questions.{mapped, part_of, pair_parts, pairs_of}
+use Rattle.record.specs.Reader.{place_numbered, IsPart}
+use Rattle.record.specs.Holds.{HoldsRecord}
+use Rattle.record.proofs.Own.{own_shown, number_placed}
+use Rattle.record.proofs.Opening.{IsRecord, record_opened, two_opened}
+use Rattle.record.proofs.Access.{record_count, record_pair_count, pair_within}
+use Rattle.record.proofs.Parts.{entry_part, name_in_lem, name_out, own_in_lem, pair_in, pair_out}
+
+-- ------------------------------------------------------------------ the test
+
+holds : (b : Bytes) → IsRecord b → HoldsRecord b
+holds b r = let s = r.held in record { decoded = r.decoded; long = s.long; count = s.count; own = s.own; subgraphs = s.subgraphs; translations = s.translations }
+
+-- a buffer with no fault is the record that it shows
+pub record_held : (b : Bytes) → check_of b ≡ Ok tt → HoldsRecord b
+record_held b z = holds b (record_opened b z).0
+
+pub records_held : (b c : Bytes) → check_of_both b c ≡ Ok tt → HoldsRecord b × HoldsRecord c
+records_held b c z = let r = two_opened b c z in (holds b r.0, holds c r.1)
+
+-- ------------------------------------------------------------------ what stands where
+
+part_same : (b : Bytes) (i : ℕ) (p : Part) → IsPart b i p → p ≡ entry_part b i
+part_same b i p q = rw (← q.0, ← q.1)
+
+module _ (b : Bytes) (r : HoldsRecord b) where
+  pub names_counted : name_count b ≡ length (names (shown b))
+  names_counted = sym (record_count b (shown b) r.decoded)
+
+  pub pairs_counted : (k : Kind) → pair_count k b ≡ length (pairs_of k (shown b))
+  pairs_counted k = sym (record_pair_count b (shown b) r.decoded k)
+
+  pub own_part_absent : place_numbered (own_number b) ≡ None → None ≡ mapped (part_of (shown b)) (shown b).name
+  own_part_absent e = rw (own_shown b, e)
+
+  pub own_part_there : (i : ℕ) (p : Part) → place_numbered (own_number b) ≡ Some i → IsPart b i p → Some p ≡ mapped (part_of (shown b)) (shown b).name
+  own_part_there i p e q = ap (λ (w : Part). Some w) (part_same b i p q) ∙ sym (own_in_lem b (shown b) r.decoded i (number_placed (own_number b) i e))
+
+  pub part_absent : (i : ℕ) → name_count b ≤ i → None ≡ mapped (part_of (shown b)) (slice_get (names (shown b)) i)
+  part_absent i h = sym (name_out b (shown b) r.decoded i h)
+
+  pub part_there : (i : ℕ) (p : Part) → i < name_count b → IsPart b i p → Some p ≡ mapped (part_of (shown b)) (slice_get (names (shown b)) i)
+  part_there i p h q = ap (λ (w : Part). Some w) (part_same b i p q) ∙ sym (name_in_lem b (shown b) r.decoded i h)
+
+  -- the places of a pair, and where they stand, are small
+  pub pair_small : (k : Kind) (i : ℕ) → i < pair_count k b
+      → (entry_at (from_place b (table_at k b + pair_length * i)) + entry_length ≤ length b) × (entry_at (to_place b (table_at k b + pair_length * i)) + entry_length ≤ length b)
+  pair_small k i h =
+      let w = pair_within b (shown b) r.decoded k i h in
+      (omega (arith, w.0, r.count, r.long), omega (arith, w.1, r.count, r.long))
+
+  pub pair_parts_absent : (k : Kind) (i : ℕ) → pair_count k b ≤ i → None ≡ mapped (pair_parts (shown b)) (slice_get (pairs_of k (shown b)) i)
+  pair_parts_absent k i h = rw (pair_out b (shown b) r.decoded k i h)
+
+  pub pair_parts_there : (k : Kind) (i : ℕ) (p q : Part) → i < pair_count k b
+      → IsPart b (from_place b (table_at k b + pair_length * i)) p → IsPart b (to_place b (table_at k b + pair_length * i)) q
+      → Some (record { from = p; to = q }) ≡ mapped (pair_parts (shown b)) (slice_get (pairs_of k (shown b)) i)
+  pair_parts_there k i p q h u v = rw (part_same b _ p u, part_same b _ q v) (sym (pair_in b (shown b) r.decoded k i h))

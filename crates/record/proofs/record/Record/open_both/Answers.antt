@@ -1,0 +1,20 @@
+-- The fault found is the refusal; with none the records are what the buffers show.
+use Rattle.std.proofs.Common.{sym, ◌∙◌}
+use Rattle.std.proofs.lemmas.Result.{err_from_is_err_and}
+use Rattle.record.proofs.Opening.{two_refused, two_opened}
+use Rattle.record.proofs.Meaning.{records_held}
+use Rattle.record.proofs.record.Record.open_both.Goals as goal
+
+pub returns-in_err-check_both : goal.returns-in_err-check_both
+returns-in_err-check_both c =
+    let p = err_from_is_err_and c.from_residual.result c.from_residual.ensures.1 in
+    rw (p.1, p.2) (sym (two_refused c.args.b.now c.args.c.now _ (sym c.check_both.ensures ∙ c.in_err-check_both.was)))
+
+pub invariant_of-result : goal.invariant_of-result
+invariant_of-result c = (records_held c.args.b.now c.args.c.now (sym c.check_both.ensures ∙ c.in_ok-check_both.was)).0
+
+pub invariant_of-result-2 : goal.invariant_of-result-2
+invariant_of-result-2 c = (records_held c.args.b.now c.args.c.now (sym c.check_both.ensures ∙ c.in_ok-check_both.was)).1
+
+pub returns : goal.returns
+returns c = sym (two_opened c.args.b.now c.args.c.now (sym c.check_both.ensures ∙ c.in_ok-check_both.was)).2
