@@ -1,16 +1,22 @@
 -- A number read byte by byte has the test of its expression: each state has a test of what may follow, and a byte leads from one to the next.
 use mathlib.Core.Path.{◌≡◌, refl, sym, ap, ◌∙◌}
 use mathlib.Core.Bool.{Bool, true, false, cond, ◌&&◌, ◌||◌, false≢true, and-eq-true_iff, and-true, and-false, or-false, or_assoc, or_comm, or_self}
-use mathlib.Core.List.{[], ◌∷◌}
-use Prim.Native.Nat.{ℕ}
+use mathlib.Core.List.{List, [], ◌∷◌}
+use Prim.Native.Nat.{ℕ, suc}
+use native.Mathlib.Numerals.{add-one}
+use lib.ListN.{length}
+use native.Mathlib.Omega.{arith}
 use lib.Dec.{eqb}
-use borrow.Author.Tests.{eqb-true}
+use borrow.Author.Tests.{eqb-true, eqb-false, ne_eqb}
+use Rattle.std.specs.List.{list_all, slice_split, onto_first}
+use Rattle.std.proofs.lemmas.List.Splits.{length-slice_split}
 use Rattle.model.specs.Bytes.{Bytes}
 use Rattle.model.specs.Strict.{Regex, epsilon, one, seq, alt, plus, opt, byte, one_of, sign, digit, integer, float, nullable, after, matches}
 use Rattle.strict.specs.Class.{is_one_of}
-use Rattle.strict.specs.Number.{signs, exponents, after_digit, after_sign, after_number, next, ends, run}
+use Rattle.std.specs.Prelude.{Option, Some, None, option_map, option_and_then, unwrap_or}
+use Rattle.strict.specs.Number.{signs, exponents, after_digit, after_sign, after_number, next, ends, read, run}
 use Rattle.strict.specs.declared.number.Number.{Number}
-use Rattle.strict.specs.declared.number.Number.TheVariants.{Float, Unsigned, Whole, Point, Fraction, Integer, UnsignedInteger, Digits, Refused}
+use Rattle.strict.specs.declared.number.Number.TheVariants.{Float, Unsigned, Whole, Point, Fraction, Integer, UnsignedInteger, Digits}
 use Rattle.strict.proofs.Sequences.{never_fails, seq_seq, alt_or, seq_opt, seq_plus, seq_one, seq_one_of, seq_run}
 
 -- the parts of a number's expression
@@ -34,26 +40,41 @@ abbrev pub rest : Bool → Regex
 rest false = epsilon
 rest true = alt epsilon (seq (plus item) epsilon)
 
+-- in a list, a comma behind a number, and then the next number
+abbrev comma : Bool → ℕ → Option Number → Option Number
+comma list x q = cond (eqb 44 x && list) (Some Float) q
+
+-- the state after the byte x, of a number or in a list
+abbrev next_in : Bool → ℕ → Number → Option Number
+next_in list x Float = next x Float
+next_in list x Unsigned = next x Unsigned
+next_in list x Whole = after_number x (comma list x (after_sign x))
+next_in list x Point = next x Point
+next_in list x Fraction = after_number x (comma list x (after_digit x Fraction))
+next_in list x Integer = next x Integer
+next_in list x UnsignedInteger = next x UnsignedInteger
+next_in list x Digits = comma list x (after_digit x Digits)
+
 -- the test of what is left to read in a state
-abbrev pub left : Bool → Number → Bytes → Bool
-left list Float s = matches (seq float (rest list)) s
-left list Unsigned s = matches (seq (seq (opt digits) pointed) (rest list)) s
-left list Whole s =
+abbrev pub left : Bool → Option Number → Bytes → Bool
+left list None s = false
+left list (Some Float) s = matches (seq float (rest list)) s
+left list (Some Unsigned) s = matches (seq (seq (opt digits) pointed) (rest list)) s
+left list (Some Whole) s =
     (matches (seq exponent (rest list)) s || matches (seq digits (seq exponent (rest list))) s)
     || matches (seq (seq (opt digits) pointed) (rest list)) s
-left list Point s = matches (seq digits (seq exponent (rest list))) s
-left list Fraction s = matches (seq exponent (rest list)) s || matches (seq digits (seq exponent (rest list))) s
-left list Integer s = matches (seq integer (rest list)) s
-left list UnsignedInteger s = matches (seq digits (rest list)) s
-left list Digits s = matches (rest list) s || matches (seq digits (rest list)) s
-left list Refused s = false
+left list (Some Point) s = matches (seq digits (seq exponent (rest list))) s
+left list (Some Fraction) s = matches (seq exponent (rest list)) s || matches (seq digits (seq exponent (rest list))) s
+left list (Some Integer) s = matches (seq integer (rest list)) s
+left list (Some UnsignedInteger) s = matches (seq digits (rest list)) s
+left list (Some Digits) s = matches (rest list) s || matches (seq digits (rest list)) s
 
 rest_ends : (list : Bool) → nullable (rest list) ≡ true
 unfolding nullable
 rest_ends true = refl
 rest_ends false = refl
 
-left_ends : (list : Bool) (q : Number) → left list q [] ≡ ends q
+left_ends : (list : Bool) (q : Number) → left list (Some q) [] ≡ ends q
 unfolding matches nullable
 left_ends list Float = refl
 left_ends list Unsigned = refl
@@ -63,72 +84,71 @@ left_ends list Fraction = rw (rest_ends list)
 left_ends list Integer = refl
 left_ends list UnsignedInteger = refl
 left_ends list Digits = rw (rest_ends list)
-left_ends list Refused = refl
 
 -- a part that may be missing, then p, then r
 seq_opt_seq : (o p r : Regex) (s : Bytes) → matches (seq (seq (opt o) p) r) s ≡ matches (seq o (seq p r)) s || matches (seq p r) s
 seq_opt_seq o p r s = seq_seq (opt o) p r s ∙ seq_opt o (seq p r) s
 
--- f refuses each of some bytes
-abbrev Refuses : (ℕ → Number) → Bytes → Type 0
+-- no byte of some may stand where f decides
+abbrev Refuses : (ℕ → Option Number) → Bytes → Type 0
 Refuses f [] = Unit {0}
-Refuses f (b ∷ bs) = (f b ≡ Refused) × Refuses f bs
+Refuses f (b ∷ bs) = (f b ≡ None) × Refuses f bs
 
-refused_at : (f : ℕ → Number) (bs : Bytes) (x : ℕ) → Refuses f bs → is_one_of bs x ≡ true → f x ≡ Refused
+refused_at : (f : ℕ → Option Number) (bs : Bytes) (x : ℕ) → Refuses f bs → is_one_of bs x ≡ true → f x ≡ None
 refused_at f [] x r e = absurd (false≢true e)
 refused_at f (b ∷ bs) x r e = go (eqb b x) refl e (refused_at f bs x r.1)
   where
-    go : (t : Bool) → eqb b x ≡ t → t || is_one_of bs x ≡ true → (is_one_of bs x ≡ true → f x ≡ Refused) → f x ≡ Refused
+    go : (t : Bool) → eqb b x ≡ t → t || is_one_of bs x ≡ true → (is_one_of bs x ≡ true → f x ≡ None) → f x ≡ None
     go true h e k = sym (ap f (eqb-true b x h)) ∙ r.0
     go false h e k = k e
 
 module _ (list : Bool) (s : Bytes) where
-  -- a test that leads to q, or else what p leaves; p is refused where the test holds
-  or_else : (t : Bool) (q p : Number) → (t ≡ true → p ≡ Refused) → (t && left list q s) || left list p s ≡ left list (cond t q p) s
+  -- a test that leads to q, or else what p leaves; p is nothing where the test holds
+  or_else : (t : Bool) (q p : Option Number) → (t ≡ true → p ≡ None) → (t && left list q s) || left list p s ≡ left list (cond t q p) s
   or_else true q p f = rw (f refl) (or-false (left list q s))
   or_else false q p f = refl
 
-  or_nothing : (t : Bool) (q : Number) → t && left list q s ≡ left list (cond t q Refused) s
+  or_nothing : (t : Bool) (q : Option Number) → t && left list q s ≡ left list (cond t q None) s
   or_nothing true q = refl
   or_nothing false q = refl
 
 -- more items of a list begin with a comma
-pub items_step : (x : ℕ) (s : Bytes) → matches (seq (plus item) epsilon) (x ∷ s) ≡ eqb 44 x && left true Float s
+pub items_step : (x : ℕ) (s : Bytes) → matches (seq (plus item) epsilon) (x ∷ s) ≡ eqb 44 x && left true (Some Float) s
 items_step x s = seq_plus item epsilon (x ∷ s) ∙ seq_seq (byte 44) float (rest true) (x ∷ s) ∙ seq_one (eqb 44) (seq float (rest true)) x s
 
-rest_step : (list : Bool) (x : ℕ) (s : Bytes) → matches (rest list) (x ∷ s) ≡ (eqb 44 x && list) && left list Float s
+rest_step : (list : Bool) (x : ℕ) (s : Bytes) → matches (rest list) (x ∷ s) ≡ (eqb 44 x && list) && left list (Some Float) s
 unfolding matches after
 rest_step true x s =
     alt_or epsilon (seq (plus item) epsilon) (x ∷ s) ∙ rw (never_fails s, and-true (eqb 44 x)) (items_step x s)
 rest_step false x s = never_fails s ∙ rw (and-false (eqb 44 x))
 
 module _ (list : Bool) (x : ℕ) (s : Bytes) where
-  unsigned_integer_step : left list UnsignedInteger (x ∷ s) ≡ left list (next list UnsignedInteger x) s
-  unsigned_integer_step = seq_run digit (rest list) x s ∙ or_nothing list s (digit x) Digits
+  unsigned_integer_step : left list (Some UnsignedInteger) (x ∷ s) ≡ left list (next x UnsignedInteger) s
+  unsigned_integer_step = seq_run digit (rest list) x s ∙ or_nothing list s (digit x) (Some Digits)
 
-  point_step : left list Point (x ∷ s) ≡ left list (next list Point x) s
-  point_step = seq_run digit (seq exponent (rest list)) x s ∙ or_nothing list s (digit x) Fraction
+  point_step : left list (Some Point) (x ∷ s) ≡ left list (next x Point) s
+  point_step = seq_run digit (seq exponent (rest list)) x s ∙ or_nothing list s (digit x) (Some Fraction)
 
-  integer_step : left list Integer (x ∷ s) ≡ left list (next list Integer x) s
+  integer_step : left list (Some Integer) (x ∷ s) ≡ left list (next x Integer) s
   integer_step =
       seq_opt_seq sign digits (rest list) (x ∷ s)
       ∙ rw (seq_one_of signs (seq digits (rest list)) x s, unsigned_integer_step)
-      (or_else list s (is_one_of signs x) UnsignedInteger (next list UnsignedInteger x)
-      (refused_at (next list UnsignedInteger) signs x (refl, (refl, tt))))
+      (or_else list s (is_one_of signs x) (Some UnsignedInteger) (next x UnsignedInteger)
+      (refused_at (λ y. next y UnsignedInteger) signs x (refl, (refl, tt))))
 
   -- a comma of a list, or else what p leaves
-  comma_step : (p : ℕ → Number) → p 44 ≡ Refused
-      → matches (rest list) (x ∷ s) || left list (p x) s ≡ left list (cond (eqb 44 x && list) Float (p x)) s
+  comma_step : (p : ℕ → Option Number) → p 44 ≡ None
+      → matches (rest list) (x ∷ s) || left list (p x) s ≡ left list (comma list x (p x)) s
   comma_step p r =
       rw (rest_step list x s)
-      (or_else list s (eqb 44 x && list) Float (p x) (λ e. refused_at p (44 ∷ []) x (r, tt) (rw ((and-eq-true_iff (eqb 44 x) list).0 e).0)))
+      (or_else list s (eqb 44 x && list) (Some Float) (p x) (λ e. refused_at p (44 ∷ []) x (r, tt) (rw ((and-eq-true_iff (eqb 44 x) list).0 e).0)))
 
-  digits_step : left list Digits (x ∷ s) ≡ left list (next list Digits x) s
-  digits_step = rw unsigned_integer_step (comma_step (next list UnsignedInteger) refl)
+  digits_step : left list (Some Digits) (x ∷ s) ≡ left list (next_in list x Digits) s
+  digits_step = rw unsigned_integer_step (comma_step (λ y. next y UnsignedInteger) refl)
 
   -- an exponent, a comma of a list, or else what p leaves
-  exponent_step : (p : ℕ → Number) → Refuses p (44 ∷ exponents)
-      → matches (seq exponent (rest list)) (x ∷ s) || left list (p x) s ≡ left list (after_number list x (p x)) s
+  exponent_step : (p : ℕ → Option Number) → Refuses p (44 ∷ exponents)
+      → matches (seq exponent (rest list)) (x ∷ s) || left list (p x) s ≡ left list (after_number x (comma list x (p x))) s
   exponent_step p r =
       rw (
         seq_opt (seq (one_of exponents) integer) (rest list) (x ∷ s),
@@ -137,14 +157,13 @@ module _ (list : Bool) (x : ℕ) (s : Bytes) where
         or_assoc,
         comma_step p r.0,
       )
-      (or_else list s (is_one_of exponents x) Integer (cond (eqb 44 x && list) Float (p x))
-      (refused_at (λ y. cond (eqb 44 y && list) Float (p y)) exponents x r.1))
+      (or_else list s (is_one_of exponents x) (Some Integer) (comma list x (p x)) (refused_at (λ y. comma list y (p y)) exponents x r.1))
 
-  fraction_step : left list Fraction (x ∷ s) ≡ left list (next list Fraction x) s
-  fraction_step = rw point_step (exponent_step (next list Point) (refl, (refl, (refl, tt))))
+  fraction_step : left list (Some Fraction) (x ∷ s) ≡ left list (next_in list x Fraction) s
+  fraction_step = rw point_step (exponent_step (λ y. next y Point) (refl, (refl, (refl, tt))))
 
   -- the point and a fraction, or a fraction
-  pointed_step : matches (seq pointed (rest list)) (x ∷ s) ≡ (eqb 46 x && left list Point s) || (digit x && left list Fraction s)
+  pointed_step : matches (seq pointed (rest list)) (x ∷ s) ≡ (eqb 46 x && left list (Some Point) s) || (digit x && left list (Some Fraction) s)
   pointed_step =
       seq_opt_seq (byte 46) fraction (rest list) (x ∷ s)
       ∙ rw (
@@ -154,43 +173,43 @@ module _ (list : Bool) (x : ℕ) (s : Bytes) where
         seq_run digit (seq exponent (rest list)) x s,
       )
 
-  unsigned_step : left list Unsigned (x ∷ s) ≡ left list (next list Unsigned x) s
+  unsigned_step : left list (Some Unsigned) (x ∷ s) ≡ left list (next x Unsigned) s
   unsigned_step =
       seq_opt_seq digits pointed (rest list) (x ∷ s)
       ∙ rw (seq_run digit (seq pointed (rest list)) x s, pointed_step)
-      (gather (digit x) (matches (seq pointed (rest list)) s) (matches (seq digits (seq pointed (rest list))) s) (eqb 46 x && left list Point s)
-      (left list Fraction s)
-      ∙ rw (← seq_opt_seq digits pointed (rest list) s, or_nothing list s (digit x) Whole)
-      (or_else list s (eqb 46 x) Point (after_digit x Whole) (λ e. refused_at (λ y. after_digit y Whole) (46 ∷ []) x (refl, tt) (rw e))))
+      (gather (digit x) (matches (seq pointed (rest list)) s) (matches (seq digits (seq pointed (rest list))) s) (eqb 46 x && left list (Some Point) s)
+      (left list (Some Fraction) s)
+      ∙ rw (← seq_opt_seq digits pointed (rest list) s, or_nothing list s (digit x) (Some Whole))
+      (or_else list s (eqb 46 x) (Some Point) (after_digit x Whole) (λ e. refused_at (λ y. after_digit y Whole) (46 ∷ []) x (refl, tt) (rw e))))
     where
       gather : (d r t k f : Bool) → (d && (r || t)) || (k || (d && f)) ≡ k || (d && (f || (t || r)))
       gather true r t k f = or_comm (r || t) (k || f) ∙ or_assoc k f (r || t) ∙ ap (λ (u : Bool). k || (f || u)) (or_comm r t)
       gather false r t k f = refl
 
-  float_step : left list Float (x ∷ s) ≡ left list (next list Float x) s
+  float_step : left list (Some Float) (x ∷ s) ≡ left list (next x Float) s
   float_step =
       seq_opt_seq sign (seq (opt digits) pointed) (rest list) (x ∷ s)
       ∙ rw (seq_one_of signs (seq (seq (opt digits) pointed) (rest list)) x s, unsigned_step)
-      (or_else list s (is_one_of signs x) Unsigned (after_sign x) (refused_at after_sign signs x (refl, (refl, tt))))
+      (or_else list s (is_one_of signs x) (Some Unsigned) (after_sign x) (refused_at after_sign signs x (refl, (refl, tt))))
 
   -- after digits, a further digit is of the whole part too
-  digit_again : left list (next list Point x) s || left list (after_sign x) s ≡ left list (after_sign x) s
+  digit_again : left list (next x Point) s || left list (after_sign x) s ≡ left list (after_sign x) s
   digit_again = go (digit x) (eqb 46 x) refl refl
     where
       go : (d p : Bool) → digit x ≡ d → eqb 46 x ≡ p
-          → left list (cond d Fraction Refused) s || left list (cond p Point (cond d Whole Refused)) s
-          ≡ left list (cond p Point (cond d Whole Refused)) s
+          → left list (cond d (Some Fraction) None) s || left list (cond p (Some Point) (cond d (Some Whole) None)) s
+          ≡ left list (cond p (Some Point) (cond d (Some Whole) None)) s
       go true true e f = absurd (false≢true (ap digit (eqb-true 46 x f) ∙ e))
       go true false e f =
-          sym (or_assoc (left list Fraction s) (left list Fraction s) (left list Unsigned s))
-          ∙ ap (λ (t : Bool). t || left list Unsigned s) (or_self (left list Fraction s))
+          sym (or_assoc (left list (Some Fraction) s) (left list (Some Fraction) s) (left list (Some Unsigned) s))
+          ∙ ap (λ (t : Bool). t || left list (Some Unsigned) s) (or_self (left list (Some Fraction) s))
       go false p e f = refl
 
-  whole_step : left list Whole (x ∷ s) ≡ left list (next list Whole x) s
+  whole_step : left list (Some Whole) (x ∷ s) ≡ left list (next_in list x Whole) s
   whole_step = rw (or_assoc, point_step, unsigned_step, digit_again) (exponent_step after_sign (refl, (refl, (refl, tt))))
 
 -- a byte leads from a state to the next
-left_step : (list : Bool) (q : Number) (x : ℕ) (s : Bytes) → left list q (x ∷ s) ≡ left list (next list q x) s
+left_step : (list : Bool) (q : Number) (x : ℕ) (s : Bytes) → left list (Some q) (x ∷ s) ≡ left list (next_in list x q) s
 left_step list Float x s = float_step list x s
 left_step list Unsigned x s = unsigned_step list x s
 left_step list Whole x s = whole_step list x s
@@ -199,10 +218,79 @@ left_step list Fraction x s = fraction_step list x s
 left_step list Integer x s = integer_step list x s
 left_step list UnsignedInteger x s = unsigned_integer_step list x s
 left_step list Digits x s = digits_step list x s
-left_step list Refused x s = refl
+
+-- ------------------------------------------------------------------ one number, and numbers between commas
+
+-- whether a number may end, if there is one
+abbrev ended : Option Number → Bool
+ended q = unwrap_or (option_map ends q) false
+
+ended_left : (list : Bool) (q : Option Number) → left list q [] ≡ ended q
+ended_left list None = refl
+ended_left list (Some q) = left_ends list q
+
+-- where no comma of a list stands, a byte does what it does in a number
+same_next : (list : Bool) (q : Number) (x : ℕ) → eqb 44 x && list ≡ false → next_in list x q ≡ next x q
+same_next list Float x e = refl
+same_next list Unsigned x e = refl
+same_next list Whole x e = rw e
+same_next list Point x e = refl
+same_next list Fraction x e = rw e
+same_next list Integer x e = refl
+same_next list UnsignedInteger x e = refl
+same_next list Digits x e = rw e
+
+abbrev then_next : Option Number → ℕ → Option Number
+then_next q x = option_and_then (next x) q
+
+read_step : (list : Bool) (q : Option Number) (x : ℕ) (s : Bytes) → eqb 44 x && list ≡ false → left list q (x ∷ s) ≡ left list (then_next q x) s
+read_step list None x s e = refl
+read_step list (Some q) x s e = left_step list q x s ∙ rw (same_next list q x e)
 
 -- reading on from a state makes the test of what is left
-pub run_left : (list : Bool) (q : Number) (s : Bytes) → run list q s ≡ left list q s
-unfolding run
-run_left list q [] = sym (left_ends list q)
-run_left list q (x ∷ s) = run_left list (next list q x) s ∙ sym (left_step list q x s)
+pub run_left : (q : Option Number) (s : Bytes) → ended (read q s) ≡ left false q s
+unfolding read
+run_left q [] = sym (ended_left false q)
+run_left q (x ∷ s) = run_left (then_next q x) s ∙ sym (read_step false q x s (and-false (eqb 44 x)))
+
+-- at a comma, a number that may end there gives way to the next
+comma_next : (q : Option Number) (s : Bytes) → left true q (44 ∷ s) ≡ ended q && left true (Some Float) s
+comma_next None s = refl
+comma_next (Some q) s = left_step true q 44 s ∙ go q
+  where
+    go : (q : Number) → left true (next_in true 44 q) s ≡ ends q && left true (Some Float) s
+    go Float = refl
+    go Unsigned = refl
+    go Whole = refl
+    go Point = refl
+    go Fraction = refl
+    go Integer = refl
+    go UnsignedInteger = refl
+    go Digits = refl
+
+-- the first of some numbers is read on from a state
+abbrev runs_from : Option Number → List Bytes → Bool
+runs_from q [] = true
+runs_from q (w ∷ ws) = ended (read q w) && list_all (run Float) ws
+
+runs_all : (ws : List Bytes) → runs_from (Some Float) ws ≡ list_all (run Float) ws
+runs_all [] = refl
+runs_all (w ∷ ws) = refl
+
+abbrev pub between_commas : Bytes → List Bytes
+between_commas s = slice_split (λ x. eqb x 44) s
+
+runs_left : (q : Option Number) (s : Bytes) → runs_from q (between_commas s) ≡ left true q s
+unfolding read
+runs_left q [] = and-true (ended q) ∙ sym (ended_left true q)
+runs_left q (x ∷ s) = go (eqb x 44) refl (between_commas s) (length-slice_split (λ x. eqb x 44) s ∙ add-one _) (runs_left (Some Float) s) (runs_left (then_next q x) s)
+  where
+    go : (t : Bool) → eqb x 44 ≡ t → (ws : List Bytes) {n : ℕ} → length ws ≡ suc n → runs_from (Some Float) ws ≡ left true (Some Float) s
+        → runs_from (then_next q x) ws ≡ left true (then_next q x) s → runs_from q (cond t ([] ∷ ws) (onto_first x ws)) ≡ left true q (x ∷ s)
+    go true e ws n f g = rw (eqb-true x 44 e, sym (runs_all ws) ∙ f) (sym (comma_next q s))
+    go false e [] n f g = absurd (omega arith)
+    go false e (w ∷ ws) n f g = g ∙ sym (read_step true q x s (rw (ne_eqb 44 x (λ p. eqb-false x 44 e (sym p)))))
+
+-- the numbers of a list, between commas
+pub list_left : (s : Bytes) → list_all (run Float) (between_commas s) ≡ left true (Some Float) s
+list_left s = sym (runs_all (between_commas s)) ∙ runs_left (Some Float) s

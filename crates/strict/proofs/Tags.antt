@@ -1,11 +1,11 @@
 -- The table of tags: two letters have a place of their own, and its entry tells whether the tag was seen.
 use mathlib.Core.Path.{◌≡◌, refl, sym, ap, ◌∙◌}
 use mathlib.Core.Logic.{◌⊎◌, inl, inr, ⊎_elim}
-use mathlib.Core.Bool.{Bool, true, false, cond, ◌&&◌, ◌||◌, not, false≢true}
+use mathlib.Core.Bool.{Bool, true, false, ◌&&◌, ◌||◌, not, false≢true}
 use mathlib.Core.List.{List, [], ◌∷◌}
 use Prim.Native.Nat.{ℕ, ◌+◌, ◌≤◌, ◌<◌}
 use native.Mathlib.Omega.{arith}
-use lib.Dec.{leb, eqb}
+use lib.Dec.{leb}
 use lib.ListN.{length, get_or, take, set, replicate, length-set, get_or-replicate}
 use lib.Seq.{get_or-set_same, get_or-set_other}
 use borrow.Author.Tests.{leb-true, lt-ltb, le-ltb}
@@ -61,33 +61,33 @@ module _ (x y : ℕ) (lx : letter x ≡ true) (ly : letter y ≡ true) where
       cc
 
 -- the table tells of each tag of two letters whether it is one of `tags`
-pub record Marked (seen : Bytes) (tags : List Bytes) : Type 0 where
+pub record Marked (seen : List Bool) (tags : List Bytes) : Type 0 where
   pub whole : length seen ≡ 2704
-  pub entry : (x y : ℕ) → letter x ≡ true → letter y ≡ true → get_or seen (tag_place x y) 0 ≡ cond (has_tag (x ∷ y ∷ []) tags) 1 0
+  pub entry : (x y : ℕ) → letter x ≡ true → letter y ≡ true → get_or seen (tag_place x y) false ≡ has_tag (x ∷ y ∷ []) tags
 
-pub marked_none : (seen : Bytes) → seen ≡ replicate 2704 0 → Marked seen []
+pub marked_none : (seen : List Bool) → seen ≡ replicate 2704 false → Marked seen []
 marked_none seen e = record {
   whole = ap length e;
-  entry = λ x y lx ly. rw e (get_or-replicate 2704 (tag_place x y) 0 0 (tag_below x y lx ly));
+  entry = λ x y lx ly. rw e (get_or-replicate 2704 (tag_place x y) false false (tag_below x y lx ly));
 }
 
 -- one tag more
-pub marked_more : (seen : Bytes) (tags : List Bytes) (x y : ℕ) → letter x ≡ true → letter y ≡ true → Marked seen tags
-    → Marked (set seen (tag_place x y) 1) ((x ∷ y ∷ []) ∷ tags)
+pub marked_more : (seen : List Bool) (tags : List Bytes) (x y : ℕ) → letter x ≡ true → letter y ≡ true → Marked seen tags
+    → Marked (set seen (tag_place x y) true) ((x ∷ y ∷ []) ∷ tags)
 marked_more seen tags x y lx ly m = record {
-  whole = length-set seen (tag_place x y) 1 ∙ m.whole;
+  whole = length-set seen (tag_place x y) true ∙ m.whole;
   entry = λ u v lu lv. go u v lu lv (same_bytes (u ∷ v ∷ []) (x ∷ y ∷ [])) refl;
 }
   where
     go : (u v : ℕ) → letter u ≡ true → letter v ≡ true → (t : Bool) → same_bytes (u ∷ v ∷ []) (x ∷ y ∷ []) ≡ t
-        → get_or (set seen (tag_place x y) 1) (tag_place u v) 0 ≡ cond (t || has_tag (u ∷ v ∷ []) tags) 1 0
+        → get_or (set seen (tag_place x y) true) (tag_place u v) false ≡ t || has_tag (u ∷ v ∷ []) tags
     go u v lu lv true e =
         let same = (same_bytes_true (u ∷ v ∷ []) (x ∷ y ∷ [])).0 e in
         let p : u ≡ x = cc in
         let q : v ≡ y = cc in
-        rw (p, q) (get_or-set_same seen (tag_place x y) 1 0 (rw m.whole (tag_below x y lx ly)))
+        rw (p, q) (get_or-set_same seen (tag_place x y) true false (rw m.whole (tag_below x y lx ly)))
     go u v lu lv false e =
-        get_or-set_other seen (tag_place x y) (tag_place u v) 1 0
+        get_or-set_other seen (tag_place x y) (tag_place u v) true false
         (λ p. false≢true (sym e ∙ (same_bytes_true (u ∷ v ∷ []) (x ∷ y ∷ [])).1 (same_tag u v lu lv x y lx ly p)))
         ∙ m.entry u v lu lv
 
@@ -113,22 +113,17 @@ tag_of (x ∷ []) h = absurd (omega arith)
 tag_of (x ∷ y ∷ f) h = refl
 
 -- a typed field whose tag the table does not have has a new tag
-pub new_tag : (f seen : Bytes) (tags : List Bytes) → Marked seen tags
-    → fine_field f && eqb (get_or seen (field_place f) 0) 0 ≡ fine_field f && not (has_tag (take 2 f) tags)
+pub new_tag : (f : Bytes) (seen : List Bool) (tags : List Bytes) → Marked seen tags
+    → fine_field f && not (get_or seen (field_place f) false) ≡ fine_field f && not (has_tag (take 2 f) tags)
 new_tag f seen tags m = go (fine_field f) refl
   where
-    unmarked : (t : Bool) → eqb (cond t 1 0) 0 ≡ not t
-    unmarked true = refl
-    unmarked false = refl
-
-    go : (t : Bool) → fine_field f ≡ t → t && eqb (get_or seen (field_place f) 0) 0 ≡ t && not (has_tag (take 2 f) tags)
-    go true e =
-        let b = fine_begins f e in
-        rw (m.entry (get_or f 0 0) (get_or f 1 0) b.first b.second, tag_of f b.long) (unmarked (has_tag (get_or f 0 0 ∷ get_or f 1 0 ∷ []) tags))
+    go : (t : Bool) → fine_field f ≡ t → t && not (get_or seen (field_place f) false) ≡ t && not (has_tag (take 2 f) tags)
+    go true e = let b = fine_begins f e in rw (m.entry (get_or f 0 0) (get_or f 1 0) b.first b.second, tag_of f b.long)
     go false e = refl
 
 -- the table after a field with a new tag
-pub marked_field : (f seen : Bytes) (tags : List Bytes) → fine_field f ≡ true → Marked seen tags → Marked (set seen (field_place f) 1) (take 2 f ∷ tags)
+pub marked_field : (f : Bytes) (seen : List Bool) (tags : List Bytes) → fine_field f ≡ true → Marked seen tags
+    → Marked (set seen (field_place f) true) (take 2 f ∷ tags)
 marked_field f seen tags e m =
     let b = fine_begins f e in
     rw (tag_of f b.long) (marked_more seen tags (get_or f 0 0) (get_or f 1 0) b.first b.second m)

@@ -1,11 +1,11 @@
 -- Numbers read byte by byte: the states of the reading, and what each byte makes of them.
-use Rattle.std.specs.Prelude.{Bool, true, false, cond, ◌&&◌, [], ◌∷◌, ℕ, eqb}
+use Rattle.std.specs.Prelude.{Option, Some, None, option_map, option_and_then, unwrap_or, Bool, true, false, cond, ℕ, eqb, fold}
 use Rattle.model.specs.Text.{text}
 use Rattle.model.specs.Bytes.{Bytes}
 use Rattle.model.specs.Strict.{digit}
 use Rattle.strict.specs.Class.{is_one_of}
 use Rattle.strict.specs.declared.number.Number.{Number}
-use Rattle.strict.specs.declared.number.Number.TheVariants.{Float, Unsigned, Whole, Point, Fraction, Integer, UnsignedInteger, Digits, Refused}
+use Rattle.strict.specs.declared.number.Number.TheVariants.{Float, Unsigned, Whole, Point, Fraction, Integer, UnsignedInteger, Digits}
 
 abbrev pub signs : Bytes
 signs = text "-+"
@@ -13,29 +13,28 @@ signs = text "-+"
 abbrev pub exponents : Bytes
 exponents = text "eE"
 
--- after a digit, and nothing else
-abbrev pub after_digit : ℕ → Number → Number
-after_digit x q = cond (digit x) q Refused
+-- behind a digit q, and behind another byte nothing
+abbrev pub after_digit : ℕ → Number → Option Number
+after_digit x q = cond (digit x) (Some q) None
 
--- after the sign: the point, or a digit
-abbrev pub after_sign : ℕ → Number
-after_sign x = cond (eqb 46 x) Point (after_digit x Whole)
+-- behind the sign: the point, or a digit
+abbrev pub after_sign : ℕ → Option Number
+after_sign x = cond (eqb 46 x) (Some Point) (after_digit x Whole)
 
--- after a number without an exponent: its exponent, in a list a comma, or else what q says
-abbrev pub after_number : Bool → ℕ → Number → Number
-after_number list x q = cond (is_one_of exponents x) Integer (cond (eqb 44 x && list) Float q)
+-- behind a number without an exponent: its exponent, or else what q says
+abbrev pub after_number : ℕ → Option Number → Option Number
+after_number x q = cond (is_one_of exponents x) (Some Integer) q
 
--- the state after the byte x
-abbrev pub next : Bool → Number → ℕ → Number
-next list Float x = cond (is_one_of signs x) Unsigned (after_sign x)
-next list Unsigned x = after_sign x
-next list Whole x = after_number list x (after_sign x)
-next list Point x = after_digit x Fraction
-next list Fraction x = after_number list x (after_digit x Fraction)
-next list Integer x = cond (is_one_of signs x) UnsignedInteger (after_digit x Digits)
-next list UnsignedInteger x = after_digit x Digits
-next list Digits x = cond (eqb 44 x && list) Float (after_digit x Digits)
-next list Refused x = Refused
+-- the state after the byte x, if x may stand there
+abbrev pub next : ℕ → Number → Option Number
+next x Float = cond (is_one_of signs x) (Some Unsigned) (after_sign x)
+next x Unsigned = after_sign x
+next x Whole = after_number x (after_sign x)
+next x Point = after_digit x Fraction
+next x Fraction = after_number x (after_digit x Fraction)
+next x Integer = cond (is_one_of signs x) (Some UnsignedInteger) (after_digit x Digits)
+next x UnsignedInteger = after_digit x Digits
+next x Digits = after_digit x Digits
 
 -- whether a number may end in a state
 abbrev pub ends : Number → Bool
@@ -47,9 +46,11 @@ ends Fraction = true
 ends Integer = false
 ends UnsignedInteger = false
 ends Digits = true
-ends Refused = false
 
--- whether a text, read on from a state, is a number or a list of numbers
-unfoldable pub run : Bool → Number → Bytes → Bool
-run list q [] = ends q
-run list q (x ∷ xs) = run list (next list q x) xs
+-- the state after a text, if each byte may stand where it does
+unfoldable pub read : Option Number → Bytes → Option Number
+read = fold (λ q x. option_and_then (next x) q)
+
+-- whether a text, read on from a state, is a number
+abbrev pub run : Number → Bytes → Bool
+run q v = unwrap_or (option_map ends (read (Some q) v)) false

@@ -1,42 +1,63 @@
 // The tags of a line: each has a place in a table, which tells whether it was seen.
-ghost use Rattle.std.specs.Prelude.{◌≡◌, true, cond, ◌&&◌, ◌<◌, eqb, length, get_or, set};
+ghost use Rattle.std.specs.Prelude.{◌≡◌, true, false, not, cond, ◌&&◌, ◌<◌, get_or, set, replicate};
 ghost use Rattle.model.specs.Strict.{letter, fine_field};
 ghost use Rattle.strict.specs.Tag.{letter_place, tag_place, field_place};
 
 use crate::value::fine_field;
+use text::filled;
+
+// How many letters there are, and how many tags of two of them.
+const LETTERS: usize = 52;
+
+const TAGS: usize = 2704;
+
+// The tags that were seen.
+#[derive(Drop)]
+pub(crate) struct Tags {
+    seen: [bool; TAGS],
+}
 
 // The place of a letter: A to Z, then a to z.
 fn letter_place(x: u8) -> usize
     requires { letter x ≡ true }
-    ensures { (result ≡ letter_place x) × (result < 52) }
+    ensures { (result ≡ letter_place x) × (result < LETTERS) }
 {
     if x < b'a' {
-        return (x - b'A') as usize;
+        usize::from(x - b'A')
+    } else {
+        usize::from(x - b'a') + 26
     }
-    (x - b'a') as usize + 26
 }
 
 // The place of the tag of two letters.
 fn tag_place(x: u8, y: u8) -> usize
     requires { (letter x ≡ true) × (letter y ≡ true) }
-    ensures { (result ≡ tag_place x y) × (result < 2704) }
+    ensures { (result ≡ tag_place x y) × (result < TAGS) }
 {
-    letter_place(x) * 52 + letter_place(y)
+    letter_place(x) * LETTERS + letter_place(y)
 }
 
-// Whether f is a typed field with a tag that was not seen; the tag is then marked as seen.
-pub(crate) fn is_new_field(f: &[u8], seen: &mut [u8]) -> bool
-    requires { length seen.old ≡ 2704 }
-    ensures value { result ≡ (fine_field f.now && eqb (get_or seen.old (field_place f.now) 0) 0) }
-    ensures seen_after { seen.new ≡ cond result (set seen.old (field_place f.now) 1) seen.old }
-{
-    if !fine_field(f) {
-        return false;
+impl Tags {
+    // No tags.
+    pub(crate) fn new() -> Tags
+        ensures { result.seen ≡ replicate TAGS false }
+    {
+        Tags {
+            seen: filled(false),
+        }
     }
-    let at = tag_place(f[0], f[1]);
-    if seen[at] != 0 {
-        return false;
+
+    // Whether a field is a typed one with a tag that was not seen, which now is.
+    pub(crate) fn take(&mut self, field: &[u8]) -> bool
+        ensures value { result ≡ (fine_field field.now && not (get_or self.old.seen (field_place field.now) false)) }
+        ensures seen_after { self.new.seen ≡ cond (fine_field field.now) (set self.old.seen (field_place field.now) true) self.old.seen }
+    {
+        if !fine_field(field) {
+            return false;
+        }
+        let at = tag_place(field[0], field[1]);
+        let new = !self.seen[at];
+        self.seen[at] = true;
+        new
     }
-    seen[at] = 1;
-    true
 }

@@ -1,97 +1,65 @@
 // Values of the seven types, and typed fields.
-ghost use Rattle.std.specs.Prelude.{◌≡◌, ◌&&◌, ltb, length};
-ghost use Rattle.model.specs.Strict.{one, visible, matches, value_of, fine_field};
-ghost use Rattle.strict.specs.Class.{all};
-ghost use Rattle.strict.specs.Value.{run_class};
+ghost use Rattle.std.specs.Prelude.{◌≡◌, ◌||◌};
+ghost use Rattle.std.specs.List.{list_all};
+ghost use Rattle.model.specs.Strict.{digit, hex_letter, printable, matches, value_of, fine_field};
 
-use crate::class::{is_digit, is_hex_letter, is_letter, is_one_of, is_printable, is_visible};
-use crate::number::{Number, is_number};
+use crate::number::Number;
 
-// Whether v is one byte of ! to ~.
-fn is_one_visible(v: &[u8]) -> bool
-    ensures { result ≡ matches (one visible) v.now }
+// Whether each byte of v is one of the space to ~.
+fn is_printable(v: &[u8]) -> bool
+    ensures { result ≡ list_all printable v.now }
 {
-    if v.len() == 1 {
-        return is_visible(v[0]);
-    }
-    false
+    v.iter().all(|x| matches!(x, b' '..=b'~'))
 }
 
-// Whether a byte may stand in a value of type H or, where t is another, of type Z or J.
-fn in_run(t: u8, x: u8) -> bool
-    ensures { result ≡ run_class t x }
+// Whether each byte of v is a digit or one of A to F.
+fn is_hex(v: &[u8]) -> bool
+    ensures { result ≡ list_all (λ x. digit x || hex_letter x) v.now }
 {
-    if t != b'H' {
-        return is_printable(x);
-    }
-    if is_digit(x) {
-        return true;
-    }
-    is_hex_letter(x)
-}
-
-// Whether v is one or more bytes that may stand in a value of type t: Z, J or H.
-fn is_run(t: u8, v: &[u8]) -> bool
-    ensures { result ≡ (ltb 0 (length v.now) && all (run_class t) v.now) }
-{
-    let mut i = 0;
-    while i < v.len() {
-        if !in_run(t, v[i]) {
-            return false;
-        }
-        i += 1;
-    }
-    0 < v.len()
+    v.iter().all(|x| matches!(x, b'0'..=b'9' | b'A'..=b'F'))
 }
 
 // Whether v is a list of numbers: the letter of their width, then a comma before each.
+#[tactic(auto, using(crate::proofs::Values::list_cases))]
 fn is_list(v: &[u8]) -> bool
     ensures { result ≡ matches (value_of 66) v.now }
 {
-    if v.len() < 2 {
-        return false;
+    match v {
+        [width, b',', numbers @ ..] => {
+            b"cCsSiIf".contains(width)
+                && numbers
+                    .split(|x| *x == b',')
+                    .all(|number| Number::Float.accepts(number))
+        }
+        _ => false,
     }
-    if !is_one_of(v[0], b"cCsSiIf") {
-        return false;
-    }
-    if v[1] != b',' {
-        return false;
-    }
-    is_number(true, Number::Float, &v[2..])
 }
 
 // Whether v is a value of type t; a byte that is no type has none.
+#[tactic(auto, using(crate::proofs::Values::values))]
 pub fn fine_value(t: u8, v: &[u8]) -> bool
     ensures { result ≡ matches (value_of t) v.now }
 {
     match t {
-        b'A' => is_one_visible(v),
-        b'i' => is_number(false, Number::Integer, v),
-        b'f' => is_number(false, Number::Float, v),
-        b'Z' | b'J' | b'H' => is_run(t, v),
+        b'A' => matches!(v, [b'!'..=b'~']),
+        b'i' => Number::Integer.accepts(v),
+        b'f' => Number::Float.accepts(v),
+        b'Z' | b'J' => !v.is_empty() && is_printable(v),
+        b'H' => !v.is_empty() && is_hex(v),
         b'B' => is_list(v),
         _ => false,
     }
 }
 
 // Whether f is a typed field: two letters, a colon, a type, a colon, a value of that type.
+#[tactic(auto, using(std::proofs::lemmas::Bool::Decides::nat_tests), unfolding(model::specs::Strict::fine_field))]
 pub fn fine_field(f: &[u8]) -> bool
     ensures { result ≡ fine_field f.now }
 {
-    if f.len() < 5 {
-        return false;
+    match f {
+        [x, y, b':', t, b':', v @ ..] => {
+            x.is_ascii_alphabetic() && y.is_ascii_alphabetic() && fine_value(*t, v)
+        }
+        _ => false,
     }
-    if !is_letter(f[0]) {
-        return false;
-    }
-    if !is_letter(f[1]) {
-        return false;
-    }
-    if f[2] != b':' {
-        return false;
-    }
-    if f[4] != b':' {
-        return false;
-    }
-    fine_value(f[3], &f[5..])
 }
