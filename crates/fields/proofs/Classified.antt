@@ -1,44 +1,30 @@
 -- A field's effect is what it says by itself, taken into the graph name so far: one law each for typed fields, `@` lines and relations of tags.
-use mathlib.Core.Path.{◌≡◌, refl}
-use mathlib.Core.Bool.{Bool, true, false, cond, not, ◌&&◌}
-use mathlib.Core.List.{List, [], ◌∷◌}
+use Rattle.std.proofs.Common.{◌≡◌, refl, Bool, true, false, cond, ◌&&◌, List, [], ◌∷◌, ℕ, ◌≤◌, ◌<◌, length, drop, get_or, eqb, arith, eqb-true, eq-eqb}
 use Rattle.std.specs.Prelude.{Option, Some, None}
-use Prim.Native.Nat.{ℕ, suc, ◌+◌, ◌≤◌}
-use native.Mathlib.Numerals.{add-one}
-use lib.ListN.{length, take, drop, get_or}
-use lib.Seq.{drop-cons}
-use lib.Dec.{eqb}
-use native.Mathlib.Omega.{arith}
-use borrow.Author.Tests.{eqb-true, eq-eqb}
 use Rattle.model.specs.declared.Kind.{Kind}
 use Rattle.model.specs.declared.Kind.TheVariants.{Subgraph, Translation}
 use Rattle.model.specs.Text.{text}
 use Rattle.model.specs.Bytes.{Bytes, compare_numbers, compare_bytes, same_bytes, is_empty, split}
 use Rattle.model.specs.Record.{Pair, GraphName, with_name}
-use Rattle.model.specs.Reading.{or_wrong, two_parts, add_to, one_name, is_typed, typed_field, is_gaf_head, gaf_line}
+use Rattle.model.specs.Reading.{or_wrong, two_parts, add_to, one_name, typed_field, is_gaf_head, gaf_line}
 use Rattle.text.proofs.Order.{same_bytes_refl, same_bytes_true}
 use Rattle.text.proofs.Tests.{both_true, same_tests}
-use Rattle.fields.specs.Fields.{FieldMeaning, apply, related_by, one_named, fault, nothing, named, classify_string, classify_typed, classify_gaf}
-use Rattle.fields.specs.Contents.{type_of}
-use Rattle.fields.specs.declared.field.Typed.{Typed}
-use Rattle.fields.specs.declared.field.Typed.TheVariants.{Untyped, String, Other}
+use Rattle.fields.specs.Fields.{FieldMeaning, apply, related_by, one_named, fault, named, classify_string, classify_typed, classify_gaf}
 
--- two bytes of a string are compared one by one
-pub two_bytes : (s : Bytes) (at x y : ℕ) → at + 2 ≤ length s
-    → same_bytes (take 2 (drop at s)) (x ∷ y ∷ []) ≡ eqb (get_or s at 0) x && eqb (get_or s (at + 1) 0) y
-two_bytes s at x y h =
-    rw (drop-cons s at 0 (omega arith), drop-cons s (suc at) 0 (omega arith), add-one at) (go (get_or s at 0) (get_or s (suc at) 0))
-  where
-    go : (a b : ℕ) → same_bytes (a ∷ b ∷ []) (x ∷ y ∷ []) ≡ eqb a x && eqb b y
-    go a b = same_tests _ _
-        (λ e.
-        let l : ◌≡◌ {A = Bytes} (a ∷ b ∷ []) (x ∷ y ∷ []) = (same_bytes_true (a ∷ b ∷ []) (x ∷ y ∷ [])).0 e in
-        let p : a ≡ x = cc in
-        let q : b ≡ y = cc in
-        rw (eq-eqb a x p, eq-eqb b y q))
-        (λ e.
-        let w = both_true (eqb a x) (eqb b y) e in
-        rw (eqb-true a x w.0, eqb-true b y w.1) (same_bytes_refl (x ∷ y ∷ [])))
+-- a string of two bytes is compared byte by byte
+pub two_bytes : (s : Bytes) (x y : ℕ) → 2 ≤ length s → length s < 3 → same_bytes s (x ∷ y ∷ []) ≡ eqb (get_or s 0 0) x && eqb (get_or s 1 0) y
+two_bytes [] x y h k = absurd (omega arith)
+two_bytes (a ∷ []) x y h k = absurd (omega arith)
+two_bytes (a ∷ b ∷ []) x y h k = same_tests _ _
+    (λ e.
+    let l : ◌≡◌ {A = Bytes} (a ∷ b ∷ []) (x ∷ y ∷ []) = (same_bytes_true (a ∷ b ∷ []) (x ∷ y ∷ [])).0 e in
+    let p : a ≡ x = cc in
+    let q : b ≡ y = cc in
+    rw (eq-eqb a x p, eq-eqb b y q))
+    (λ e.
+    let w = both_true (eqb a x) (eqb b y) e in
+    rw (eqb-true a x w.0, eqb-true b y w.1) (same_bytes_refl (x ∷ y ∷ [])))
+two_bytes (a ∷ b ∷ c ∷ s) x y h k = absurd (omega arith)
 
 -- a string that begins `@` is compared by what stands behind that
 same_behind : (s t : Bytes) → get_or s 0 0 ≡ 64 → same_bytes s (64 ∷ t) ≡ same_bytes (drop 1 s) t
@@ -79,20 +65,3 @@ module _ (g : GraphName) where
       let ps = two_parts rest in
       rw (same_behind head (text "RN") b, same_behind head (text "SG") b, same_behind head (text "TL") b)
       (simp (apply_cond, name_classified rest, relation_classified Subgraph 7 ps, relation_classified Translation 8 ps))
-
-abbrev by_type {ℓ} : {A : Type ℓ} → Typed → A → A → A → A
-by_type Untyped a b c = a
-by_type String a b c = b
-by_type Other a b c = c
-
--- what a typed field says, by the answer about its type
-module _ (f : Bytes) (r : Typed) (e : r ≡ type_of f) where
-  pub typed_by_type : by_type r (fault 3) (classify_string f) nothing ≡ classify_typed f
-  unfolding classify_typed
-  typed_by_type = rw e (go (is_typed f) (eqb (get_or f 3 0) 90))
-    where
-      go : (t z : Bool) → by_type (cond t (cond z String Other) Untyped) (fault 3) (classify_string f) nothing
-          ≡ cond (not t) (fault 3) (cond (not z) nothing (classify_string f))
-      go true true = refl
-      go true false = refl
-      go false z = refl

@@ -1,14 +1,8 @@
 -- Where a refusal is (`OffsetRight`): a field that is wrong stands at its offset, and is wrong by itself, whatever was read before it.
-use mathlib.Core.Path.{◌≡◌, refl, sym, ap, subst, ◌∙◌}
-use mathlib.Core.Logic.{◌⊎◌, inl, inr, ⊎_elim}
-use mathlib.Core.Bool.{Bool, true, false, cond, not, ◌||◌, false≢true}
-use mathlib.Core.List.{List, [], ◌∷◌}
+use Rattle.std.proofs.Common.{◌≡◌, refl, sym, ap, subst, ◌∙◌, ◌⊎◌, inl, inr, ⊎_elim, Bool, true, false, cond, not, ◌||◌, List, [], ◌∷◌, ℕ, suc, ◌+◌, ◌-◌, ◌≤◌, ◌<◌, arith, eqb, ltb, leb, length, take, drop, get_or, ne_eqb, le-leb}
+use Rattle.std.proofs.Math.Bool.{false≢true}
 use Rattle.std.specs.Prelude.{Option, Some, None}
-use Prim.Native.Nat.{ℕ, suc, ◌+◌, ◌-◌, ◌≤◌, ◌<◌}
-use native.Mathlib.Omega.{arith}
-use lib.Dec.{eqb, ltb, leb}
-use lib.ListN.{length, take, drop, get_or}
-use borrow.Author.Tests.{eqb-false, ne_eqb, le-leb, lt-leb}
+use borrow.Author.Tests.{eqb-false, lt-leb}
 use Rattle.model.specs.declared.Kind.{Kind}
 use Rattle.model.specs.declared.Kind.TheVariants.{Subgraph, Translation}
 use Rattle.model.specs.Text.{text}

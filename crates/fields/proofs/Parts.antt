@@ -1,15 +1,7 @@
 -- Splitting by places: the parts from a place on, and when a string is two parts round one separator.
-use mathlib.Core.Path.{◌≡◌, refl, sym, ap, ◌∙◌}
-use mathlib.Core.Bool.{Bool, true, false, cond}
-use mathlib.Core.List.{List, [], ◌∷◌}
+use Rattle.std.proofs.Common.{◌≡◌, refl, sym, ap, ◌∙◌, Bool, true, false, cond, List, [], ◌∷◌, ℕ, ◌+◌, ◌-◌, ◌≤◌, ◌<◌, arith, add-one, leb, length, take, drop, drop_of_length-le, length-drop, take_all, length-take-le, le-leb, leb-true, leb-false}
 use Rattle.std.specs.Prelude.{Some, None}
-use Prim.Native.Nat.{ℕ, ◌+◌, ◌-◌, ◌≤◌, ◌<◌}
-use native.Mathlib.Omega.{arith}
-use native.Mathlib.Numerals.{add-one}
-use lib.Dec.{leb}
-use lib.ListN.{length, take, drop, drop_of_length-le, length-drop}
-use lib.Seq.{take_all, length-take-le}
-use borrow.Author.Tests.{lt-leb, le-leb, leb-true, leb-false}
+use borrow.Author.Tests.{lt-leb}
 use Rattle.model.specs.Bytes.{Bytes, index_of, split}
 use Rattle.model.specs.Reading.{two_parts}
 use Rattle.fields.specs.Fields.{fault, named, one_named}

@@ -1,15 +1,8 @@
 -- Where the parts of a text stand: what splitting gives stands one part behind the other, each but the first behind a separator, and none
 -- holds one. And which line a place is in, by the line ends before it.
-use mathlib.Core.Path.{◌≡◌, refl, ap, subst, ◌∙◌}
-use mathlib.Core.Bool.{Bool, true, false, cond}
-use mathlib.Core.List.{List, [], ◌∷◌, ◌++◌}
-use Prim.Native.Nat.{ℕ, zero, suc, ◌+◌, ◌≤◌, ◌<◌}
-use native.Mathlib.Omega.{arith}
-use native.Mathlib.Numerals.{add-one}
-use lib.Dec.{eqb}
-use lib.ListN.{length, take, drop, get_or}
-use lib.Seq.{drop-cons, take-length, take-suc}
-use borrow.Author.Tests.{eqb-true, eqb-false, eq-eqb, ne_eqb}
+use Rattle.std.proofs.Common.{◌≡◌, refl, ap, subst, ◌∙◌, Bool, true, false, cond, List, [], ◌∷◌, ◌++◌, ℕ, zero, suc, ◌+◌, ◌≤◌, ◌<◌, arith, add-one, eqb, length, take, drop, get_or, drop-cons, take-suc, eqb-true, eq-eqb, ne_eqb}
+use Rattle.std.proofs.Math.Seq.{take-length}
+use borrow.Author.Tests.{eqb-false}
 use Rattle.model.specs.Bytes.{Bytes, is_empty, cons_head, split}
 use Rattle.model.specs.Reading.{without_last_empty}
 use Rattle.text.proofs.Split.{split_from}

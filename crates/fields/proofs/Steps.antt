@@ -1,170 +1,197 @@
--- One step of a reading of header lines: a field of an `H` line, a line that counts as one field, and a line's first fault (`Reads`).
-use mathlib.Core.Path.{◌≡◌, refl, sym, ap, ◌∙◌}
-use mathlib.Core.Bool.{Bool, true, false, cond, ◌||◌}
-use Prim.Native.Nat.{ℕ, suc, ◌+◌, ◌-◌, ◌≤◌, ◌<◌}
-use native.Mathlib.Omega.{arith}
-use native.Mathlib.Numerals.{add-one}
-use lib.Dec.{eqb}
-use lib.ListN.{length, take, drop}
-use lib.Seq.{length-take-le}
-use borrow.Author.Tests.{eqb-true, lt-ltb}
+-- One step of a reading: a part of a line or of a tag, a line as one field, and an `H` line's first step, which is that of its second field.
+use Rattle.std.proofs.Common.{◌≡◌, refl, sym, ap, ◌∙◌, true, false, ◌&&◌, [], ◌∷◌, ℕ, suc, ◌+◌, ◌-◌, ◌≤◌, ◌<◌, arith, eqb, ltb, length, take, drop, length-take-le, take-take, drop-drop, eqb-true, lt-ltb, ltb-true}
+use Rattle.std.specs.Prelude.{Result, Err, nat_eq}
+use Rattle.std.specs.List.{starts_with}
+use Rattle.std.proofs.Math.Seq.{take-length}
+use Rattle.text.proofs.Order.{same_bytes_true}
+use Rattle.model.specs.declared.fault.Fault.{Fault}
+use Rattle.model.specs.declared.fault.Fault.TheVariants.{ShortLine, UnknownFirstField}
 use Rattle.model.specs.Text.{text}
 use Rattle.model.specs.Bytes.{Bytes, index_of, split, same_bytes}
-use Rattle.model.specs.Record.{GraphName}
-use Rattle.model.specs.Reading.{after_taken, refuse, is_gaf_head}
+use Rattle.model.specs.Record.{empty}
+use Rattle.model.specs.Reading.{is_gaf_head}
 use Rattle.text.proofs.Tests.{both_true}
-use Rattle.fields.specs.Fields.{apply, classify_gaf, classify_part, separator_of}
+use Rattle.fields.specs.Fields.{classify_gaf, classify_part, separator_of}
 use Rattle.fields.specs.Contents.{meaning_of, PlacesIn}
-use Rattle.fields.specs.Rest.{rest_of, OneLine, Position, line_field, field_begin, Reads}
+use Rattle.fields.specs.Rest.{NoLines, Tallies, IsLine, Reads}
 use Rattle.fields.specs.declared.field.Source.{Source}
 use Rattle.fields.specs.declared.field.Source.TheVariants.{Header, Tag}
 use Rattle.fields.specs.declared.field.Content.{Content}
-use Rattle.fields.specs.declared.field.Content.TheVariants.{Fault}
+use Rattle.fields.specs.declared.line.Field.{Field}
 use Rattle.fields.specs.declared.step.Tally.{Tally}
-use Rattle.fields.specs.declared.step.Field.{Field}
+use Rattle.fields.specs.declared.step.Fields.{Fields}
 use Rattle.fields.proofs.Classified.{gaf_classified}
-use Rattle.fields.proofs.Parts.{between, part_within, part_length}
-use Rattle.fields.proofs.Rest.{drop_take, next_part, rest_part, begin_short, begin_head, rest_short, rest_fields, rest_gaf, rest_unknown}
+use Rattle.fields.proofs.Parts.{part_within, part_length}
+use Rattle.fields.proofs.Rest.{drop_take, next_part, rest_part, h_line, short_line, line_begin_lem, by_head, whole_line, line_begins, rest_line, rest_fields}
 
--- the next part ends at e, where x is the text up to `stop`
-module _ (source : Source) (t : Bytes) (stop at : ℕ) (tally : Tally) (p : Position source t stop at tally) (h : at < stop) (x : Bytes)
-    (b : x ≡ take (stop - 1) t) (sep : ℕ) (n : sep ≡ separator_of source) (e : ℕ) (f : e ≡ at + index_of sep (drop at x)) where
-  place_in_text : e ≡ at + index_of (separator_of source) (drop at (take (stop - 1) t))
-  place_in_text = rw (b, n) at f
+-- ------------------------------------------------------------------ a part
 
-  pub part_before : e < stop
-  part_before = (next_part (separator_of source) t stop (omega arith) p.within at e h place_in_text).2
+-- the next part ends at e
+module _ {before : Fields} {tally : Tally} (counts : Tallies before tally) (h : before.at < before.stop) {e : ℕ}
+    (f : e ≡ before.at + index_of (separator_of before.source) (drop before.at (take (before.stop - 1) before.text.now))) where
+  pub part_ends : (before.at ≤ e) × (e < before.stop)
+  part_ends = (omega arith, (next_part (separator_of before.source) before.text.now before.stop (omega arith) before.within before.at e h f).2)
 
-  pub part_read : (y : Bytes) → y ≡ take (e - at) (drop at t) → (c : Content) → (meaning_of y c ≡ classify_part source y) × PlacesIn y c
-      → Reads source t stop at tally (record { content = c; offset = at; start = at; size = e - at; next = e + 1; stop = stop })
-      (record { lines = tally.lines; fields = tally.fields + 1 })
-  part_read y v c s =
+  pub part_read : {after : Fields} {y : Bytes} {c : Result Content Fault} → after.source ≡ before.source → after.text.now ≡ before.text.now
+      → after.stop ≡ before.stop → after.at ≡ e + 1 → y ≡ take (e - before.at) (drop before.at before.text.now)
+      → (meaning_of y c ≡ classify_part before.source y) × PlacesIn y c
+      → Reads before tally (record { content = c; offset = before.at; start = before.at; size = e - before.at })
+      after (record { lines = tally.lines; fields = tally.fields + 1 })
+  part_read a b i j v s =
       let w = rw v at s in
       record {
-        reading = λ g. rest_part source t tally stop at g e h p.within p.tag place_in_text ∙ rw w.0;
-        begins = rw (lt-ltb at stop h);
-        part = omega (arith, part_before, p.within);
+        reading = λ g. rest_part before.source before.text.now tally before.stop before.at g e h before.within counts.tag f ∙ rw (a, b, i, j, w.0);
+        begins = rw (lt-ltb before.at before.stop h);
+        part = omega (arith, part_ends, before.within);
         places = w.1;
         onward = omega arith;
-        position = record {
-          before = omega (arith, part_before);
-          within = p.within;
-          lines = omega (arith, p.lines);
-          fields = omega (arith, p.fields);
-          tag = one_line source p.tag;
+        text = b;
+        counts = record {
+          lines = omega (arith, counts.lines);
+          fields = omega (arith, counts.fields);
+          tag = rw a (no_lines before.source counts.tag);
         };
         counted = refl;
       }
     where
-      one_line : (s : Source) → OneLine s t stop tally → OneLine s t stop (record { lines = tally.lines; fields = tally.fields + 1 })
-      one_line Header o = tt
-      one_line (Tag k) o = o
+      no_lines : (s : Source) → NoLines s tally → NoLines s (record { lines = tally.lines; fields = tally.fields + 1 })
+      no_lines Header o = tt
+      no_lines (Tag k) o = o
 
--- the line l begins at `at` and ends at e, and its first field is k bytes long
-pub record Line (t : Bytes) (at : ℕ) (tally : Tally) (e : ℕ) (l : Bytes) (k : ℕ) : Type 0 where
-  pub position : Position Header t at at tally
-  pub more : at < length t
-  pub end : e ≡ at + index_of 10 (drop at t)
-  pub whole : l ≡ between t at e
-  pub head : k ≡ 0 + index_of 9 (drop 0 l)
+-- ------------------------------------------------------------------ a line as one field
 
-pub line_from : {t : Bytes} {at : ℕ} {tally : Tally} {e : ℕ} {l : Bytes} {k : ℕ} → Position Header t at at tally × (at < length t)
-    → e ≡ at + index_of 10 (drop at t) → l ≡ between t at e → k ≡ 0 + index_of 9 (drop 0 l) → Line t at tally e l k
-line_from p f w h = record {
-  position = p.0;
-  more = p.1;
-  end = f;
-  whole = w;
-  head = h;
-}
+-- a line that is no `H` line, by its first field, which is k bytes long
+module _ (line : Bytes) (k : ℕ) (o : starts_with nat_eq line (72 ∷ 9 ∷ []) ≡ false) (d : k ≡ 0 + index_of 9 (drop 0 line)) where
+  other : k < length line → same_bytes (take k line) (text "H") ≡ false
+  other m =
+      let e : k ≡ index_of 9 line = omega arith in
+      let h : ltb k (length line) && same_bytes (take k line) (text "H") ≡ false = rw e (sym (h_line line) ∙ o) in
+      rw (lt-ltb k (length line) m) at h
 
-module _ {t : Bytes} {at : ℕ} {tally : Tally} {e : ℕ} {l : Bytes} {k : ℕ} (line : Line t at tally e l k) where
-  abbrev counted : Tally
-  counted = record { lines = tally.lines + 1; fields = tally.fields + 1 }
-
-  head_at : k ≡ 0 + index_of 9 (drop 0 (between t at e))
-  head_at = rw line.whole at line.head
-
-  pub ends : (at ≤ e) × (e ≤ length t)
-  ends = part_within 10 t at e (omega (arith, line.more)) line.end
-
-  -- a step to the next line, whatever it quotes
-  line_step : (c : Content) (begin start size : ℕ) → begin ≡ field_begin t at at → start + size ≤ length t → PlacesIn (take size (drop start t)) c
-      → ((g : GraphName) → rest_of Header t tally.lines at at g
-      ≡ after_taken (apply g (meaning_of (take size (drop start t)) c)) (rest_of Header t (suc tally.lines) (e + 1) (e + 1)) (refuse (suc tally.lines) begin start size))
-      → Reads Header t at at tally (line_field c begin start size (e + 1)) counted
-  line_step c begin start size begins part places reading = record {
-    reading = λ g. rw (add-one tally.lines) (reading g);
-    begins = begins;
-    part = part;
-    places = places;
-    onward = omega (arith, ends);
-    position = record {
-      before = omega arith;
-      within = omega (arith, ends);
-      lines = omega (arith, ends, line.position.lines);
-      fields = omega (arith, ends, line.position.fields);
-      tag = tt;
-    };
-    counted = refl;
+  pub short_field : {at : ℕ} → length line ≤ k → IsLine line at (record { content = Err ShortLine; offset = at; start = at; size = 0 })
+  short_field {at} s = record {
+    reading = λ lines g. (short_line line k d lines at g s).0;
+    begins = sym (short_line line k d 0 at empty s).1;
+    behind = omega arith;
+    part = omega arith;
+    places = tt;
   }
 
-  pub short_read : length l ≤ k → Reads Header t at at tally (line_field (Fault 1) at 0 0 (e + 1)) counted
-  short_read s =
-      line_step (Fault 1) at 0 0 (sym (begin_short t at e line.end k head_at (rw line.whole at s))) (omega arith) tt
-      (λ g. rest_short t tally.lines at e g line.more line.end k head_at (rw line.whole at s))
-
-  module _ (m : k < length l) where
-    head_within : (at + k < e) × (at + k ≤ length t)
-    head_within = omega (arith, m, ap length line.whole, part_length 10 t at e (omega (arith, line.more)) line.end, ends)
-
-    pub second_position : Position Header t (e + 1) (at + k + 1) (record { lines = tally.lines + 1; fields = tally.fields }) × (at + k + 1 < e + 1)
-    second_position =
-        let w = head_within in (
-          record {
-            before = omega (arith, w);
-            within = omega (arith, ends);
-            lines = omega (arith, line.position.lines);
-            fields = omega (arith, line.position.fields);
-            tag = tt;
-          },
-          omega (arith, w),
-        )
-
-    -- where the first field that counts begins, by what the line's first field is
-    begin_by : (b : Bool) → same_bytes (take k l) (text "H") || is_gaf_head (take k l) ≡ b → field_begin t at at ≡ cond b (at + k + 1) at
-    begin_by b s =
-        begin_head t at e line.end k head_at (rw line.whole at m)
-        ∙ ap (λ (x : Bool). cond x (at + k + 1) at) (rw line.whole at s)
-
-    -- an `H` line's first step is that of its second field
-    pub fields_read : same_bytes (take k l) (text "H") ≡ true → (f : Field) (after : Tally)
-        → Reads Header t (e + 1) (at + k + 1) (record { lines = tally.lines + 1; fields = tally.fields }) f after → Reads Header t at at tally f after
-    fields_read s f after n = record {
-      reading = λ g. rest_fields t tally.lines at e g line.more line.end k head_at (rw line.whole at m) (rw line.whole at s) ∙ rw (add-one tally.lines) at (n.reading g);
-      begins = n.begins ∙ (rw (lt-ltb (at + k + 1) (e + 1) (omega (arith, head_within))) (sym (begin_by true (rw s))));
-      part = n.part;
-      places = n.places;
-      onward = omega (arith, n.onward);
-      position = n.position;
-      counted = n.counted;
+  module _ (m : k < length line) where
+    pub unknown_field : {at : ℕ} → is_gaf_head (take k line) ≡ false → IsLine line at (record { content = Err UnknownFirstField; offset = at; start = at; size = k })
+    unknown_field {at} u = record {
+      reading = λ lines g. by_head line k d m lines at g ∙ rw (other m, u);
+      begins = sym (line_begin_lem line k d m at ∙ rw (other m, u));
+      behind = omega arith;
+      part = omega arith;
+      places = tt;
     }
 
-    gaf_size : is_gaf_head (take k l) ≡ true → k ≡ 3
-    gaf_size u = sym (length-take-le k l (omega arith)) ∙ eqb-true _ 3 (both_true (eqb (length (take k l)) 3) _ u).0
+    pub gaf_field : {at : ℕ} → is_gaf_head (take k line) ≡ true → {c : Result Content Fault}
+        → (meaning_of line c ≡ classify_gaf (take 2 (drop 1 line)) (split 9 (drop 4 line))) × PlacesIn line c
+        → IsLine line at (record { content = c; offset = at + k + 1; start = at; size = length line })
+    gaf_field {at} u {c} v =
+        let n : k ≡ 3 = sym (length-take-le k line (omega arith)) ∙ eqb-true _ 3 (both_true (eqb (length (take k line)) 3) _ u).0 in
+        let z : at - at ≡ 0 = omega arith in
+        let q : k + 1 ≡ 4 = omega arith in
+        let w : take (length line) (drop (at - at) line) ≡ line = rw z (take-length line) in
+        record {
+          reading = λ lines g. by_head line k d m lines at g
+              ∙ rw (other m, u, gaf_classified g (take k line) (split 9 (drop (k + 1) line)) u, w, v.0, q, n, drop_take 1 3 line);
+          begins = sym (line_begin_lem line k d m at ∙ rw (other m, u));
+          behind = omega arith;
+          part = omega arith;
+          places = rw w v.1;
+        }
 
-    module _ (s : same_bytes (take k l) (text "H") ≡ false) where
-      pub gaf_read : is_gaf_head (take k l) ≡ true → (c : Content) → (meaning_of l c ≡ classify_gaf (take 2 (drop 1 l)) (split 9 (drop 4 l))) × PlacesIn l c
-          → Reads Header t at at tally (line_field c (at + k + 1) at (e - at) (e + 1)) counted
-      gaf_read u c v =
-          let w = rw line.whole at v in
-          let n : k ≡ 3 = gaf_size u in
-          let q : k + 1 ≡ 4 = omega arith in
-          line_step c (at + k + 1) at (e - at) (sym (begin_by true (rw (s, u)))) (omega (arith, ends)) w.1
-          (λ g. rest_gaf t tally.lines at e g line.more line.end k head_at (rw line.whole at m) (rw line.whole at s) (rw line.whole at u)
-          ∙ rw (gaf_classified g (take k (between t at e)) (split 9 (drop (k + 1) (between t at e))) (rw line.whole at u), w.0, q, n, drop_take 1 3 (between t at e)))
+-- ------------------------------------------------------------------ the next line
 
-      pub unknown_read : is_gaf_head (take k l) ≡ false → Reads Header t at at tally (line_field (Fault 2) at at k (e + 1)) counted
-      unknown_read u =
-          line_step (Fault 2) at at k (sym (begin_by false (rw (s, u)))) head_within.1 tt
-          (λ g. rest_unknown t tally.lines at e g line.more line.end k head_at (rw line.whole at m) (rw line.whole at s) (rw line.whole at u))
+-- the next line ends at e
+module _ {before : Fields} {tally : Tally} (counts : Tallies before tally) (s : before.stop ≤ before.at) (h : before.at < length before.text.now) {e : ℕ}
+    (f : e ≡ before.at + index_of 10 (drop before.at before.text.now)) where
+  pub line_ends : (before.at ≤ e) × (e ≤ length before.text.now)
+  line_ends = part_within 10 before.text.now before.at e (omega (arith, h)) f
+
+  header : before.source ≡ Header
+  header = go before.source refl
+    where
+      go : (source : Source) → before.source ≡ source → source ≡ Header
+      go Header q = refl
+      go (Tag k) q = let w : before.stop ≡ length before.text.now + 1 = before.whole k q in absurd (omega (arith, h, s))
+
+  module _ {line : Bytes} (w : line ≡ take (e - before.at) (drop before.at before.text.now)) where
+    line_length : length line ≡ e - before.at
+    line_length = ap length w ∙ part_length 10 before.text.now before.at e (omega (arith, h)) f
+
+    -- the same part of the line and of the text
+    same_part : (start size : ℕ) → before.at ≤ start → start + size ≤ before.at + length line
+        → take size (drop (start - before.at) line) ≡ take size (drop start before.text.now)
+    same_part start size a b =
+        let d : before.at + (start - before.at) ≡ start = omega arith in
+        rw (w, drop_take (start - before.at) (e - before.at) (drop before.at before.text.now), drop-drop (start - before.at) before.at before.text.now, d)
+        (take-take size (e - before.at - (start - before.at)) (drop start before.text.now) (omega (arith, line_length, a, b)))
+
+    -- a line read as one field
+    pub line_read : {field : Field} {after : Fields} → after.source ≡ before.source → after.text.now ≡ before.text.now
+        → after.stop ≡ e + 1 → after.at ≡ e + 1 → IsLine line before.at field
+        → Reads before tally field after (record { lines = tally.lines + 1; fields = tally.fields + 1 })
+    line_read {field} {after} a b i j l =
+        let p = same_part field.start field.size l.behind l.part in
+        let n : suc tally.lines ≡ tally.lines + 1 = omega arith in
+        record {
+          reading = λ g.
+              rw (header, a, header, b, i, j, ← n)
+              (rest_line before.text.now tally.lines before.stop before.at e h (omega (arith, s, before.before)) f g
+              ∙ rw (← w, l.reading (suc tally.lines) g, p)
+              (whole_line before.text.now (suc tally.lines) (e + 1) field.offset field.start field.size _));
+          begins = l.begins ∙ rw w (sym (line_begins before.text.now tally.lines before.stop before.at e h (omega (arith, s, before.before)) f));
+          part = omega (arith, l.part, line_length, line_ends);
+          places = rw p at l.places;
+          onward = omega (arith, line_ends);
+          text = b;
+          counts = record {
+            lines = omega (arith, counts.lines, line_ends);
+            fields = omega (arith, counts.fields, line_ends);
+            tag = rw (a, header) tt;
+          };
+          counted = refl;
+        }
+
+    -- an `H` line's second field, which begins behind two bytes
+    module _ (o : starts_with nat_eq line (72 ∷ 9 ∷ []) ≡ true) where
+      tests : (index_of 9 line < length line) × (same_bytes (take (index_of 9 line) line) (text "H") ≡ true)
+      tests =
+          let b = both_true (ltb (index_of 9 line) (length line)) _ (sym (h_line line) ∙ o) in
+          (ltb-true _ _ b.0, b.1)
+
+      head_size : index_of 9 line ≡ 1
+      head_size =
+          sym (length-take-le (index_of 9 line) line (omega (arith, tests.0)))
+          ∙ ap length ((same_bytes_true (take (index_of 9 line) line) (text "H")).0 tests.1)
+
+      pub second_within : before.at + 2 ≤ e + 1
+      second_within = omega (arith, head_size, tests.0, line_length)
+
+      pub fields_read : {middle after : Fields} {field : Field} {begun : Tally} → middle.source ≡ before.source → middle.text.now ≡ before.text.now
+          → middle.stop ≡ e + 1 → middle.at ≡ before.at + 2
+          → Reads middle (record { lines = tally.lines + 1; fields = tally.fields }) field after begun → Reads before tally field after begun
+      fields_read {middle} {after} {field} {begun} a b i j r =
+          let m : 1 < length line = omega (arith, head_size, tests.0) in
+          let u : same_bytes (take 1 line) (text "H") ≡ true = rw head_size at tests.1 in
+          let d : 1 ≡ 0 + index_of 9 (drop 0 line) = omega (arith, head_size) in
+          let q : before.at + 1 + 1 ≡ before.at + 2 = omega arith in
+          let n : suc tally.lines ≡ tally.lines + 1 = omega arith in
+          let z : before.stop ≡ before.at = omega (arith, s, before.before) in
+          record {
+            reading = λ g. rw header
+                (rest_fields before.text.now tally.lines before.stop before.at e h z f 1 (rw w at d) (rw w at m) g (rw w at u)
+                ∙ rw (q, n) (rw (a, b, i, j, header) at (r.reading g)));
+            begins = (rw (b, i, j, lt-ltb (before.at + 2) (e + 1) (omega (arith, m, line_length))) at r.begins)
+                ∙ sym (line_begins before.text.now tally.lines before.stop before.at e h z f ∙ rw (← w, line_begin_lem line 1 d m before.at, u, q));
+            part = rw b at r.part;
+            places = rw b at r.places;
+            onward = omega (arith, r.onward);
+            text = r.text ∙ b;
+            counts = r.counts;
+            counted = r.counted;
+          }

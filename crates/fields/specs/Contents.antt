@@ -1,40 +1,39 @@
 -- What the answers about a field mean: its type, its two parts, and its contents, where names are given by their places.
-use Rattle.std.specs.Prelude.{cond, ◌+◌, ◌-◌, ◌<◌, ◌≤◌, length, take, drop, get_or, eqb, Option, Some, None}
+use Rattle.std.specs.Prelude.{cond, ◌+◌, ◌-◌, ◌<◌, ◌≤◌, Bool, ℕ, length, take, drop, get_or, eqb, Option, Some, None, Result, Ok, Err}
+use Rattle.model.specs.declared.fault.Fault.{Fault}
+use Rattle.model.specs.declared.fault.Fault.TheVariants.{BadTypedField}
 use Rattle.model.specs.Bytes.{Bytes}
+use Rattle.model.specs.Faults.{fault_number}
 use Rattle.model.specs.Record.{Pair}
 use Rattle.model.specs.Reading.{is_typed}
 use Rattle.fields.specs.Fields.{FieldMeaning, fault, nothing, named, related}
-use Rattle.fields.specs.declared.field.Typed.{Typed}
-use Rattle.fields.specs.declared.field.Typed.TheVariants.{Untyped, String, Other}
-use Rattle.fields.specs.declared.field.TwoParts.{TwoParts}
-use Rattle.fields.specs.declared.field.TwoParts.TheVariants.{Absent, At}
 use Rattle.fields.specs.declared.field.Content.{Content}
-use Rattle.fields.specs.declared.field.Content.TheVariants.{Fault, Nothing, Name, Relation}
+use Rattle.fields.specs.declared.field.Content.TheVariants.{Nothing, Name, Relation}
 
--- rule 3, and then the type: Z, or another
-abbrev pub type_of : Bytes → Typed
-type_of f = cond (is_typed f) (cond (eqb (get_or f 3 0) 90) String Other) Untyped
+-- rule 3, and then whether the type is Z
+abbrev pub is_string : Bytes → Result Bool Fault
+is_string f = cond (is_typed f) (Ok (eqb (get_or f 3 0) 90)) (Err BadTypedField)
 
 -- the two parts round the separator at a place of s
-abbrev pub parts_of : Bytes → TwoParts → Option Pair
-parts_of s Absent = None
-parts_of s (At i) = Some (record { from = take i s; to = drop (i + 1) s })
+abbrev pub parts_of : Bytes → Option ℕ → Option Pair
+parts_of s None = None
+parts_of s (Some i) = Some (record { from = take i s; to = drop (i + 1) s })
 
 -- neither part is empty
-abbrev pub NeitherEmpty : Bytes → TwoParts → Type 0
-NeitherEmpty s Absent = Unit {0}
-NeitherEmpty s (At i) = (0 < i) × (i + 1 < length s)
+abbrev pub NeitherEmpty : Bytes → Option ℕ → Type 0
+NeitherEmpty s None = Unit {0}
+NeitherEmpty s (Some i) = (0 < i) × (i + 1 < length s)
 
 -- a name goes on to the end of f; a relation's first name ends at its separator, its second goes on to the end
-abbrev pub meaning_of : Bytes → Content → FieldMeaning
-meaning_of f (Fault n) = fault n
-meaning_of f Nothing = nothing
-meaning_of f (Name i) = named (drop i f)
-meaning_of f (Relation k i m) = related k (record { from = take (m - i) (drop i f); to = drop (m + 1) f })
+abbrev pub meaning_of : Bytes → Result Content Fault → FieldMeaning
+meaning_of f (Err e) = fault (fault_number e)
+meaning_of f (Ok Nothing) = nothing
+meaning_of f (Ok (Name i)) = named (drop i f)
+meaning_of f (Ok (Relation k i m)) = related k (record { from = take (m - i) (drop i f); to = drop (m + 1) f })
 
 -- the places lie within f
-abbrev pub PlacesIn : Bytes → Content → Type 0
-PlacesIn f (Fault n) = Unit {0}
-PlacesIn f Nothing = Unit {0}
-PlacesIn f (Name i) = i ≤ length f
-PlacesIn f (Relation k i m) = (i ≤ m) × (m < length f)
+abbrev pub PlacesIn : Bytes → Result Content Fault → Type 0
+PlacesIn f (Err e) = Unit {0}
+PlacesIn f (Ok Nothing) = Unit {0}
+PlacesIn f (Ok (Name i)) = i ≤ length f
+PlacesIn f (Ok (Relation k i m)) = (i ≤ m) × (m < length f)

@@ -3,14 +3,14 @@ use Rattle.std.specs.Prelude.{◌≡◌, cond, ◌||◌, List, [], ◌∷◌, �
 use Rattle.model.specs.Text.{text}
 use Rattle.model.specs.Bytes.{Bytes, same_bytes, index_of, split}
 use Rattle.model.specs.Record.{GraphName}
-use Rattle.model.specs.Reading.{Reading, after_taken, after_reading, refuse, typed_fields, is_gaf_head, lines_from, add_to, tag_number, tag_relations, without_last_empty}
+use Rattle.model.specs.Reading.{Reading, done, after_taken, after_reading, refuse, typed_fields, is_gaf_head, line_fields, lines_from, add_to, tag_number, tag_relations, without_last_empty}
 use Rattle.fields.specs.Fields.{apply}
 use Rattle.fields.specs.Contents.{meaning_of, PlacesIn}
 use Rattle.fields.specs.declared.field.Source.{Source}
 use Rattle.fields.specs.declared.field.Source.TheVariants.{Header, Tag}
-use Rattle.fields.specs.declared.field.Content.{Content}
 use Rattle.fields.specs.declared.step.Tally.{Tally}
-use Rattle.fields.specs.declared.step.Field.{Field}
+use Rattle.fields.specs.declared.line.Field.{Field}
+use Rattle.fields.specs.declared.step.Fields.{Fields}
 
 -- the lines from a place on
 abbrev pub lines_at : Bytes → ℕ → List Bytes
@@ -26,27 +26,25 @@ unfoldable pub rest_of : Source → Bytes → ℕ → ℕ → ℕ → GraphName 
 rest_of Header t lines stop at g = after_reading (typed_fields lines at (parts_at 9 t stop at) g) (lines_from (suc lines) stop (lines_at t stop))
 rest_of (Tag k) t lines stop at g = tag_relations (tag_number k) (add_to k) at (parts_at 59 t stop at) g
 
--- a tag has no lines, and its relations go up to its end
-abbrev pub OneLine : Source → Bytes → ℕ → Tally → Type 0
-OneLine Header t stop tally = Unit {0}
-OneLine (Tag k) t stop tally = (stop ≡ length t + 1) × (tally.lines ≡ 0)
+-- where the first part stops: header lines begin with a line, a tag with a relation
+abbrev pub first_stop : Source → Bytes → ℕ
+first_stop Header t = 0
+first_stop (Tag k) t = length t + 1
 
--- a reading has come to `at`, of what stops at `stop`: no further than the end, and with no more lines and fields counted than bytes passed
-pub record Position (source : Source) (t : Bytes) (stop at : ℕ) (tally : Tally) : Type 0 where
-  pub before : at ≤ stop
-  pub within : stop ≤ length t + 1
-  pub lines : tally.lines ≤ at
-  pub fields : tally.fields ≤ at
-  pub tag : OneLine source t stop tally
+-- what is left of a reading, when `lines` have been begun
+abbrev pub left_of : Fields → ℕ → GraphName → Reading
+left_of left lines = rest_of left.source left.text.now lines left.stop left.at
 
--- the part of the text that a field's places are counted in
-abbrev pub part_of : Bytes → Field → Bytes
-part_of t f = take f.size (drop f.start t)
+-- a tag has no lines
+abbrev pub NoLines : Source → Tally → Type 0
+NoLines Header tally = Unit {0}
+NoLines (Tag k) tally = tally.lines ≡ 0
 
--- a field that is a whole line, or its first fault: the next one begins with the next line
-abbrev pub line_field : Content → ℕ → ℕ → ℕ → ℕ → Field
-line_field content offset start size stop =
-    record { content = content; offset = offset; start = start; size = size; next = stop; stop = stop }
+-- no more lines and fields are counted than bytes passed
+pub record Tallies (left : Fields) (tally : Tally) : Type 0 where
+  pub lines : tally.lines ≤ left.at
+  pub fields : tally.fields ≤ left.at
+  pub tag : NoLines left.source tally
 
 -- a field refused with a number, where the tally counts it
 abbrev pub refuse_field : Field → Tally → ℕ → Reading
@@ -63,13 +61,27 @@ line_begin at (head ∷ f ∷ fs) = cond (same_bytes head (text "H") || is_gaf_h
 abbrev pub field_begin : Bytes → ℕ → ℕ → ℕ
 field_begin t stop at = cond (ltb at stop) at (line_begin at (split 9 (take (index_of 10 (drop at t)) (drop at t))))
 
--- f is the next field, and `after` the tally with it: what is left with f is what f does, and then what is left behind it
-pub record Reads (source : Source) (t : Bytes) (stop at : ℕ) (tally : Tally) (f : Field) (after : Tally) : Type 0 where
-  pub reading : (g : GraphName) → rest_of source t tally.lines stop at g
-      ≡ after_taken (apply g (meaning_of (part_of t f) f.content)) (rest_of source t after.lines f.stop f.next) (refuse_field f after)
-  pub begins : f.offset ≡ field_begin t stop at
-  pub part : f.start + f.size ≤ length t
-  pub places : PlacesIn (part_of t f) f.content
-  pub onward : at < f.next
-  pub position : Position source t f.stop f.next after
-  pub counted : after.fields ≡ tally.fields + 1
+-- the part of the text that a field's places are counted in
+abbrev pub part_of : Bytes → Field → Bytes
+part_of t f = take f.size (drop f.start t)
+
+-- f is a whole line that begins at `at`, read as one field: it does what the line does
+pub record IsLine (line : Bytes) (at : ℕ) (f : Field) : Type 0 where
+  pub reading : (lines : ℕ) (g : GraphName) → line_fields lines at line (split 9 line) g
+      ≡ after_taken (apply g (meaning_of (take f.size (drop (f.start - at) line)) f.content)) done (refuse lines f.offset f.start f.size)
+  pub begins : f.offset ≡ line_begin at (split 9 line)
+  pub behind : at ≤ f.start
+  pub part : f.start + f.size ≤ at + length line
+  pub places : PlacesIn (take f.size (drop (f.start - at) line)) f.content
+
+-- f is the next field, and `after` with `begun` is what stands behind it: what was left is what f does, and then what is left
+pub record Reads (before : Fields) (tally : Tally) (f : Field) (after : Fields) (begun : Tally) : Type 0 where
+  pub reading : (g : GraphName) → left_of before tally.lines g
+      ≡ after_taken (apply g (meaning_of (part_of before.text.now f) f.content)) (left_of after begun.lines) (refuse_field f begun)
+  pub begins : f.offset ≡ field_begin before.text.now before.stop before.at
+  pub part : f.start + f.size ≤ length before.text.now
+  pub places : PlacesIn (part_of before.text.now f) f.content
+  pub onward : before.at < after.at
+  pub text : after.text.now ≡ before.text.now
+  pub counts : Tallies after begun
+  pub counted : begun.fields ≡ tally.fields + 1

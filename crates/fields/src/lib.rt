@@ -2,7 +2,9 @@
 #![tactic(auto)]
 
 mod field;
+mod line;
 mod step;
 
-pub use field::{Content, Source, Typed, typed_field_is_string};
-pub use step::{Field, FieldRead, Tally, next, read_field};
+pub use field::{Content, Source, typed_field_is_string};
+pub use line::Field;
+pub use step::{Fields, Tally};
