@@ -1,81 +1,99 @@
--- Keys byte by byte: what a loop over a key learns at a place, and the lowered key one byte longer.
-use mathlib.Core.Path.{◌≡◌, refl, ap}
-use mathlib.Core.Bool.{Bool, true, false, cond}
-use mathlib.Core.List.{[], ◌∷◌, ◌++◌}
-use Prim.Native.Nat.{ℕ, ◌+◌, ◌≤◌, ◌<◌}
+-- Keys as the tests of std have their bytes: what may come, what may be stored, and capitals lowered.
+use mathlib.Core.Path.{◌≡◌, refl, ap, ap₂, ◌∙◌}
+use mathlib.Core.Bool.{Bool, true, false, cond, ◌&&◌}
+use mathlib.Core.List.{[], ◌∷◌, ◌++◌, map}
+use Prim.Native.Nat.{ℕ, zero, suc, ◌+◌, ◌≤◌, ◌<◌}
 use native.Mathlib.Omega.{arith}
-use native.Mathlib.Nat.{zero-add}
-use native.Mathlib.Numerals.{add-one}
-use lib.ListN.{length, take, drop, set, get_or, drop_of_length-le}
+use lib.ListN.{length, take, get_or, length-take, length-replicate}
+use lib.Seq.{take_at}
 use lib.Dec.{leb}
-use lib.Seq.{drop-cons, take-suc, take_at, length-take-le}
 use borrow.Author.Tests.{leb-true, le-leb, lt-leb}
-use Rattle.model.specs.Bytes.{Bytes, every_byte, put}
+use Rattle.std.specs.Bool.{MatchBool}
+use Rattle.std.specs.Char.{to_ascii_lowercase}
+use Rattle.std.specs.List.{list_all}
+use Rattle.std.specs.Str.{IsAscii, IsNotAscii}
+use Rattle.std.proofs.lemmas.Bool.Decides.{nat_tests}
+use Rattle.std.specs.Prelude.{Ok, Err}
+use Rattle.model.specs.declared.fault.Fault.TheVariants.{BadKey}
+use Rattle.model.specs.Bytes.{Bytes, every_byte}
 use Rattle.model.specs.TagList.{max_key, capital, key_byte, stored_byte, lower, fine_key, stored_key}
-use Rattle.text.proofs.Put.{put_snoc}
+use Rattle.model.specs.TagOutcome.{ready_key}
 use Rattle.text.proofs.Tests.{both_true}
 use Rattle.tag_list.proofs.Lowering.{length_lower}
 
-module _ (is_of : ℕ → Bool) (s : Bytes) (i : ℕ) where
-  pub every_end : length s ≤ i → every_byte is_of (drop i s) ≡ true
-  unfolding every_byte
-  every_end h = rw (drop_of_length-le s h)
+every_all : (is_of : ℕ → Bool) (k : Bytes) → list_all is_of k ≡ every_byte is_of k
+unfolding every_byte
+every_all is_of [] = refl
+every_all is_of (x ∷ xs) = rw (every_all is_of xs)
 
-  pub every_fails : i < length s → is_of (get_or s i 0) ≡ false → every_byte is_of (drop i s) ≡ false
-  unfolding every_byte
-  every_fails h e = rw (drop-cons s i 0 h, e)
+-- no byte above 127, one by one
+every_ascii : (k : Bytes) → IsAscii k → every_byte key_byte k ≡ true
+unfolding every_byte
+every_ascii [] h = refl
+every_ascii (x ∷ xs) h = rw (le-leb x 127 (omega (arith, h 0)), every_ascii xs (λ i. h (suc i)))
 
-  pub every_more : i < length s → is_of (get_or s i 0) ≡ true → every_byte is_of (drop i s) ≡ every_byte is_of (drop (i + 1) s)
-  unfolding every_byte
-  every_more h e = rw (drop-cons s i 0 h, e, add-one)
+some_above : (k : Bytes) (i : ℕ) → 128 ≤ get_or k i 0 → every_byte key_byte k ≡ false
+unfolding every_byte
+some_above [] i h = absurd (omega arith)
+some_above (x ∷ xs) zero h = rw (lt-leb x 127 (omega arith))
+some_above (x ∷ xs) (suc i) h = rw (some_above xs i h) (go (key_byte x))
+  where
+    go : (t : Bool) → t && false ≡ false
+    go true = refl
+    go false = refl
 
--- a long key, and one whose bytes decide
+-- ------------------------------------------------------------------ a key that may come, and one that is stored
+
 module _ (k : Bytes) where
-  pub fine_long : max_key < length k → fine_key k ≡ false
+  pub fine_long : max_key < length k → leb (length k) max_key ≡ fine_key k
   unfolding fine_key
   fine_long h = rw (lt-leb (length k) max_key h)
 
-  pub fine_short : length k ≤ max_key → fine_key k ≡ every_byte key_byte k
+  pub fine_short : length k ≤ max_key → (r : Bool) → MatchBool r (IsAscii k) (IsNotAscii k) → r ≡ fine_key k
   unfolding fine_key
-  fine_short h = rw (le-leb (length k) max_key h)
+  fine_short h true m = rw (le-leb (length k) max_key h, every_ascii k m)
+  fine_short h false m = rw (le-leb (length k) max_key h, some_above k m.0 m.1)
 
-  pub stored_long : max_key < length k → stored_key k ≡ false
+  pub stored_long : max_key < length k → leb (length k) max_key ≡ stored_key k
   unfolding stored_key
   stored_long h = rw (lt-leb (length k) max_key h)
 
-  pub stored_short : length k ≤ max_key → stored_key k ≡ every_byte stored_byte k
+  pub stored_short : length k ≤ max_key → list_all stored_byte k ≡ stored_key k
   unfolding stored_key
-  stored_short h = rw (le-leb (length k) max_key h)
+  stored_short h = rw (le-leb (length k) max_key h) (every_all stored_byte k)
 
--- ------------------------------------------------------------------ lowering
-
-abbrev pub lowered : ℕ → ℕ
-lowered x = cond (capital x) (x + 32) x
-
-lower_append : (a b : Bytes) → lower (a ++ b) ≡ lower a ++ lower b
-unfolding lower
-lower_append [] b = refl
-lower_append (x ∷ xs) b = ap (◌∷◌ (lowered x)) (lower_append xs b)
-
-lower_one : (x : ℕ) → lower (x ∷ []) ≡ lowered x ∷ []
-unfolding lower
-lower_one x = refl
-
--- a turn of a loop that lowers s
-pub put_lower : (out s o : Bytes) (i : ℕ) → length s ≤ length out → i < length s → o ≡ put out 0 (lower (take i s))
-    → set o i (lowered (get_or s i 0)) ≡ put out 0 (lower (take (i + 1) s))
-put_lower out s o i h k e =
-    let n = length-take-le i s (omega arith) in
-    let m = length_lower (take i s) in
-    let l : length (lower (take i s)) ≡ i = omega arith in
-    rw (e, add-one i, take-suc s i 0 k, lower_append, lower_one) (rw (l, zero-add i) at (put_snoc out 0 (lower (take i s)) (lowered (get_or s i 0)) (omega arith)))
+pub ruleset fine = (fine_long, fine_short)
 
 -- a key that may come is short
 pub fine_length : (k : Bytes) → fine_key k ≡ true → length k ≤ max_key
 unfolding fine_key
 fine_length k e = leb-true (length k) max_key (both_true (leb (length k) max_key) (every_byte key_byte k) e).0
 
--- the lowered key at the front of a space
-pub front_lowered : (space k o : Bytes) → o ≡ put space 0 (lower k) → take (length k) (drop 0 o) ≡ lower k
-unfolding put
-front_lowered space k o e = rw (e, ← length_lower k) (take_at (lower k) (drop (0 + length (lower k)) space) (length (lower k)) refl)
+-- ------------------------------------------------------------------ lowering
+
+lowered_byte : (x : ℕ) → to_ascii_lowercase x ≡ cond (capital x) (x + 32) x
+lowered_byte x = grind (arith, nat_tests)
+
+pub lower_map : (k : Bytes) → map to_ascii_lowercase k ≡ lower k
+unfolding lower
+lower_map [] = refl
+lower_map (x ∷ xs) = ap₂ ◌∷◌ (lowered_byte x) (lower_map xs)
+
+-- ------------------------------------------------------------------ a key made ready
+
+module _ (k : Bytes) where
+  pub key_refused : fine_key k ≡ false → ready_key k ≡ Err BadKey
+  unfolding ready_key
+  key_refused e = rw e
+
+  pub key_ready : fine_key k ≡ true → ready_key k ≡ Ok (lower k)
+  unfolding ready_key
+  key_ready e = rw e
+
+  pub front_ready : (o r : Bytes) → o ≡ map to_ascii_lowercase k → fine_key k ≡ true → Ok (take (length k) (o ++ r)) ≡ ready_key k
+  front_ready o r e f =
+      let l : o ≡ lower k = e ∙ lower_map k in
+      let n : length o ≡ length k = ap length l ∙ length_lower k in
+      rw (key_ready f, take_at o r (length k) n, l)
+
+pub ruleset ready = (key_refused, fine_length, front_ready, length-replicate, length-take)

@@ -14,8 +14,8 @@ use Rattle.model.specs.Bytes.{Bytes, compare_bytes}
 use Rattle.model.specs.Statements.{Ascending}
 use Rattle.model.specs.Questions.{mapped}
 use Rattle.model.specs.TagList.{Tag, tag, compare_tags, look_up, set_tag, remove_tag, tag_bodies}
-use Rattle.model.specs.declared.holdings.TagParts.{TagParts}
-use Rattle.model.specs.TagOutcome.{behind, parts_with}
+use Rattle.model.specs.declared.holdings.Part.{Part}
+use Rattle.model.specs.TagOutcome.{behind, parts_with, value_part}
 use Rattle.text.proofs.Order.{same_bytes_true, same_bytes_false}
 use Rattle.text.proofs.Ascending.{ascending_tail}
 use Rattle.tag_list.specs.Spot.{spot}
@@ -37,12 +37,16 @@ pub record Parted (k : Bytes) (ts : List Tag) : Type 0 where
   pub found : look_up k ts ≡ value_held held
   pub one : (held ≡ []) ⊎ ((v : Bytes) × (held ≡ tag k v ∷ []))
 
+-- where a value stands whose key stands at `start`
+abbrev pub part_behind : Bytes → ℕ → Bytes → Part
+part_behind k start v = record { start = start + length k; size = length v }
+
 -- the parts, and what a search from place i and byte q gives
 pub record PartedAt (k : Bytes) (i q : ℕ) (ts : List Tag) : Type 0 where
   pub parts : Parted k ts
   pub place : (spot k i q ts).place ≡ i + length parts.front
   pub start : (spot k i q ts).start ≡ q + length (tag_bodies parts.front)
-  pub size : (spot k i q ts).size ≡ mapped length (look_up k ts)
+  pub value : (spot k i q ts).value ≡ mapped (part_behind k (spot k i q ts).start) (look_up k ts)
 
 pub parted : (k : Bytes) (i q : ℕ) (ts : List Tag) → Ascending compare_tags ts → PartedAt k i q ts
 unfolding set_tag remove_tag look_up spot tag_bodies
@@ -50,7 +54,7 @@ parted k i q [] a = record {
   parts = record { front = []; held = []; back = []; whole = refl; set = λ v. refl; removed = refl; found = refl; one = inl refl };
   place = omega arith;
   start = omega arith;
-  size = refl;
+  value = refl;
 }
 parted k i q (t ∷ ts) a = go (compare_bytes k t.key) refl (parted k (i + 1) (behind q t) ts (ascending_tail compare_tags t ts a))
   where
@@ -70,7 +74,7 @@ parted k i q (t ∷ ts) a = go (compare_bytes k t.key) refl (parted k (i + 1) (b
           };
           place = unfold spot in rw e (omega arith);
           start = unfold spot tag_bodies in rw e (omega arith);
-          size = rw none_found (unfold spot in rw e);
+          value = rw none_found (unfold spot in rw e);
         }
     go Equal e r =
         let same = same_key k t.key e in
@@ -88,7 +92,7 @@ parted k i q (t ∷ ts) a = go (compare_bytes k t.key) refl (parted k (i + 1) (b
           };
           place = unfold spot in rw e (omega arith);
           start = unfold spot tag_bodies in rw e (omega arith);
-          size = rw found (unfold spot in rw e);
+          value = rw found (unfold spot in rw (e, same));
         }
     go Greater e r =
         let p = r.parts in
@@ -106,14 +110,10 @@ parted k i q (t ∷ ts) a = go (compare_bytes k t.key) refl (parted k (i + 1) (b
           };
           place = unfold spot in rw e (omega (arith, r.place));
           start = unfold spot in rw e (omega (arith, r.start, length_tag_bodies t p.front));
-          size = rw past (unfold spot in rw e r.size);
+          value = rw past (unfold spot in rw e r.value);
         }
 
--- ------------------------------------------------------------------ where key and value stand
-
--- the parts of a tag with this key that stands at `start`, its value of n bytes
-abbrev pub parts_from : Bytes → ℕ → ℕ → TagParts
-parts_from k start n = record { key = record { start = start; size = length k }; value = record { start = start + length k; size = n } }
+-- ------------------------------------------------------------------ where the value stands
 
 parts_below : (k : Bytes) (q : ℕ) (ts : List Tag) → KeyBelow k ts → parts_with q k ts ≡ None
 unfolding parts_with
@@ -122,17 +122,13 @@ parts_below k q (t ∷ ts) b =
     rw (same_bytes_false k t.key (less_differs k t.key (b t (Memᴰ.head refl))))
     (parts_below k (behind q t) ts (λ u m. b u (Memᴰ.tail m)))
 
-pub spot_parts : (k : Bytes) (i q : ℕ) (ts : List Tag) → Ascending compare_tags ts
-    → parts_with q k ts ≡ mapped (λ (n : ℕ). parts_from k (spot k i q ts).start n) (spot k i q ts).size
-spot_parts k i q [] a = unfold parts_with spot in refl
-spot_parts k i q (t ∷ ts) a =
-    go (compare_bytes k t.key) refl (spot_parts k (i + 1) (behind q t) ts (ascending_tail compare_tags t ts a))
+pub spot_value : (k : Bytes) (i q : ℕ) (ts : List Tag) → Ascending compare_tags ts → mapped value_part (parts_with q k ts) ≡ (spot k i q ts).value
+spot_value k i q [] a = unfold parts_with spot in refl
+spot_value k i q (t ∷ ts) a =
+    go (compare_bytes k t.key) refl (spot_value k (i + 1) (behind q t) ts (ascending_tail compare_tags t ts a))
   where
-    go : (o : Ordering) → compare_bytes k t.key ≡ o
-        → parts_with (behind q t) k ts ≡ mapped (λ (n : ℕ). parts_from k (spot k (i + 1) (behind q t) ts).start n) (spot k (i + 1) (behind q t) ts).size
-        → parts_with q k (t ∷ ts) ≡ mapped (λ (n : ℕ). parts_from k (spot k i q (t ∷ ts)).start n) (spot k i q (t ∷ ts)).size
-    go Less e r = parts_below k q (t ∷ ts) (key_below_cons k t ts e (first_below t ts a)) ∙ (unfold spot in rw e)
-    go Equal e r =
-        let same = same_key k t.key e in
-        unfold parts_with spot in rw (e, (same_bytes_true k t.key).1 same, same)
+    go : (o : Ordering) → compare_bytes k t.key ≡ o → mapped value_part (parts_with (behind q t) k ts) ≡ (spot k (i + 1) (behind q t) ts).value
+        → mapped value_part (parts_with q k (t ∷ ts)) ≡ (spot k i q (t ∷ ts)).value
+    go Less e r = rw (parts_below k q (t ∷ ts) (key_below_cons k t ts e (first_below t ts a))) (unfold spot in rw e)
+    go Equal e r = unfold parts_with spot in rw (e, (same_bytes_true k t.key).1 (same_key k t.key e))
     go Greater e r = unfold parts_with spot in rw (e, same_bytes_false k t.key (greater_differs k t.key e)) r

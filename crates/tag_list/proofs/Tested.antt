@@ -1,29 +1,38 @@
 -- A block of bytes is a tag list exactly if it passes the test.
 use mathlib.Core.Path.{◌≡◌, refl, sym, ap, ◌∙◌}
-use mathlib.Core.Bool.{true, false≢true}
+use mathlib.Core.Bool.{true, false, false≢true}
 use mathlib.Core.List.{List, ◌∷◌, ◌++◌, append_assoc}
 use Rattle.std.specs.Prelude.{Option, Some, None}
 use Prim.Native.Nat.{ℕ, zero, suc, ◌+◌, ◌*◌, ◌≤◌, ◌<◌}
 use native.Mathlib.Omega.{arith}
 use lib.ListN.{length, get_or, take, drop, replicate, length-append, length-drop, length-replicate, take-append-drop}
-use lib.Seq.{length-take-le, drop-drop, take-add}
+use lib.Seq.{length-take-le, drop-drop, get_or-drop, take-add}
 use lib.Dec.{leb, eqb}
-use borrow.Author.Tests.{leb-true, le-leb, le-ltb, eqb-true}
-use Rattle.std.specs.declared.cmp.Ordering.TheVariants.{Less}
+use borrow.Author.Tests.{leb-true, le-leb, le-ltb, lt-leb, eqb-true, eq-eqb, ne_eqb}
+use Rattle.std.specs.declared.cmp.Ordering.{Ordering}
+use Rattle.std.specs.declared.cmp.Ordering.TheVariants.{Less, Equal, Greater}
+use Rattle.std.specs.Ordering.{is_lt}
 use Rattle.model.specs.Bytes.{Bytes, compare_bytes}
 use Rattle.model.specs.Numbers.{le32, number32}
 use Rattle.model.specs.Opening.{is_some}
 use Rattle.model.specs.Statements.{Ascending}
 use Rattle.model.specs.TagList.{Tag, tag, compare_tags, max_tags, max_key, max_value, stored_key, all_stored, tag_count_length, tags_length, tag_entries, tag_bodies, encode_tags, keys_after, tags_in, shown_tags, decode_tags}
-use Rattle.text.proofs.Tests.{both_true, less_true, same_tests}
+use Rattle.text.proofs.Tests.{both_true, same_tests}
 use Rattle.text.proofs.Blocks.{zeros_only}
-use Rattle.record.proofs.Words.{AllBytes, bytes_drop}
 use Rattle.block.proofs.Numbers32.{le32_again, number32_drop, number32_drop_4}
-use Rattle.tag_list.specs.Test.{key_size_of, value_size_of, next_key, key_in, before_next, tag_ok, tags_ok, is_tag_block}
+use Rattle.tag_list.specs.Parts.{key_size_of, value_size_of}
+use Rattle.tag_list.specs.Test.{next_key, key_in, before_next, tag_ok, tags_ok, is_tag_block}
 use Rattle.tag_list.proofs.Bodies.{length_tag_entries}
 use Rattle.tag_list.proofs.Standing.{valid_of, encoded_parts}
 use Rattle.tag_list.proofs.Passing.{encoded_passes}
 use Rattle.tag_list.proofs.Coding.{tags_in_step, decode_some, tags_decoded}
+
+-- every entry is a byte
+abbrev AllBytes : Bytes → Type 0
+AllBytes b = (i : ℕ) → get_or b i 0 < 256
+
+bytes_drop : (a : ℕ) (b : Bytes) → AllBytes b → AllBytes (drop a b)
+bytes_drop a b h i = rw get_or-drop (h (a + i))
 
 -- ------------------------------------------------------------------ what passes is a tag list
 
@@ -104,7 +113,12 @@ module _ (b : Bytes) (a : AllBytes b) where
   before_less : (n p q : ℕ) → before_next b p q (suc (suc n)) ≡ true → compare_bytes (key_in b p q) (key_in b (p + 8) (next_key b p q)) ≡ Less
   unfolding before_next
   before_less n p q e =
-      (less_true (compare_bytes (key_in b p q) (key_in b (p + 8) (next_key b p q)))).0 (rw (le-ltb (suc (suc n)) 2 (omega arith)) at e)
+      less_true (compare_bytes (key_in b p q) (key_in b (p + 8) (next_key b p q))) (rw (le-ltb (suc (suc n)) 2 (omega arith)) at e)
+    where
+      less_true : (o : Ordering) → is_lt o ≡ true → o ≡ Less
+      less_true Less h = refl
+      less_true Equal h = cc
+      less_true Greater h = cc
 
   before_read : (n p q : ℕ) → before_next b p q (suc n) ≡ true → Ascending compare_tags (tags_in n (drop (p + 8) b) (drop (next_key b p q) b))
       → Ascending compare_tags (tag (key_in b p q) (value_at b p q) ∷ tags_in n (drop (p + 8) b) (drop (next_key b p q) b))
@@ -165,9 +179,26 @@ module _ (b : Bytes) (a : AllBytes b) where
       let r : Reads b tag_count_length (keys_after n) n ts = tags_read n tag_count_length (keys_after n) (omega arith) (omega arith) ok in
       decode_some b ts refl (valid_of ts (omega (arith, r.count)) r.order r.stored) (block_again ts long r)
 
-pub is_tag_block_lem : (b : Bytes) → ((i : ℕ) → get_or b i 0 < 256) → is_tag_block b ≡ is_some (decode_tags b)
-is_tag_block_lem b a = same_tests (is_tag_block b) (is_some (decode_tags b)) (λ e. rw (passed b a e)) (λ e. go (decode_tags b) refl e)
-  where
-    go : (o : Option (List Tag)) → decode_tags b ≡ o → is_some o ≡ true → is_tag_block b ≡ true
-    go None d e = absurd (false≢true e)
-    go (Some ts) d e = let p = tags_decoded b ts d in rw p.1 (encoded_passes ts p.0)
+-- ------------------------------------------------------------------ the parts of the test
+
+module _ (b : Bytes) (a : (i : ℕ) → get_or b i 0 < 256) where
+  is_tag_block_lem : is_tag_block b ≡ is_some (decode_tags b)
+  is_tag_block_lem = same_tests (is_tag_block b) (is_some (decode_tags b)) (λ e. rw (passed b a e)) (λ e. go (decode_tags b) refl e)
+    where
+      go : (o : Option (List Tag)) → decode_tags b ≡ o → is_some o ≡ true → is_tag_block b ≡ true
+      go None d e = absurd (false≢true e)
+      go (Some ts) d e = let p = tags_decoded b ts d in rw p.1 (encoded_passes ts p.0)
+
+  -- the length, the count, and then the tags decide
+  pub block_length : (length b ≡ tags_length → ⊥) → false ≡ is_some (decode_tags b)
+  unfolding is_tag_block
+  block_length h = rw (ne_eqb (length b) tags_length h) at is_tag_block_lem
+
+  pub block_count : length b ≡ tags_length → max_tags < number32 b 0 → false ≡ is_some (decode_tags b)
+  unfolding is_tag_block
+  block_count l h = rw (eq-eqb (length b) tags_length l, lt-leb (number32 b 0) max_tags h) at is_tag_block_lem
+
+  pub block_tags : length b ≡ tags_length → number32 b 0 ≤ max_tags
+      → tags_ok b tag_count_length (keys_after (number32 b 0)) (number32 b 0) ≡ is_some (decode_tags b)
+  unfolding is_tag_block
+  block_tags l h = rw (eq-eqb (length b) tags_length l, le-leb (number32 b 0) max_tags h) at is_tag_block_lem

@@ -1,5 +1,4 @@
--- The test of a block, where a key stands, and what each case of an answer means.
+-- Where a tag stands, the test of a block, and where a key stands or would.
+pub mod Parts
 pub mod Test
 pub mod Spot
-pub mod Found
-pub mod Answers

@@ -1,20 +1,11 @@
 -- The test of a block, tag by tag, in the order in which it goes. That the whole says what `decode_tags` says is a law.
-use Rattle.std.specs.Prelude.{Bool, true, false, cond, ◌&&◌, ℕ, zero, suc, ◌+◌, length, take, drop, leb, ltb, eqb}
-use Rattle.std.specs.declared.cmp.Ordering.{Ordering}
-use Rattle.model.specs.Bytes.{Bytes, by_order, compare_bytes}
+use Rattle.std.specs.Prelude.{Bool, true, cond, ◌&&◌, ℕ, zero, suc, ◌+◌, length, take, drop, leb, ltb, eqb}
+use Rattle.std.specs.Ordering.{is_lt}
+use Rattle.model.specs.Bytes.{Bytes, compare_bytes}
 use Rattle.model.specs.Numbers.{number32}
 use Rattle.model.specs.TagList.{max_tags, max_key, max_value, stored_key, tag_count_length, tag_entry_length, tags_length, keys_after}
 use Rattle.text.specs.Blocks.{all_zero}
-
-abbrev pub is_less : Ordering → Bool
-is_less o = by_order o true false false
-
--- the lengths of the key and of the value whose entry stands at p
-abbrev pub key_size_of : Bytes → ℕ → ℕ
-key_size_of b p = number32 b p
-
-abbrev pub value_size_of : Bytes → ℕ → ℕ
-value_size_of b p = number32 b (p + 4)
+use Rattle.tag_list.specs.Parts.{key_size_of, value_size_of}
 
 -- where the key after the one at q stands
 abbrev pub next_key : Bytes → ℕ → ℕ → ℕ
@@ -26,7 +17,7 @@ key_in b p q = take (key_size_of b p) (drop q b)
 
 -- it comes before the key of the next tag, if more than one is left
 unfoldable pub before_next : Bytes → ℕ → ℕ → ℕ → Bool
-before_next b p q left = cond (ltb left 2) true (is_less (compare_bytes (key_in b p q) (key_in b (p + tag_entry_length) (next_key b p q))))
+before_next b p q left = cond (ltb left 2) true (is_lt (compare_bytes (key_in b p q) (key_in b (p + tag_entry_length) (next_key b p q))))
 
 -- the first of the tags left is as it should be stored
 unfoldable pub tag_ok : Bytes → ℕ → ℕ → ℕ → Bool

@@ -1,70 +1,51 @@
 // Where a key stands in a tag list, or would.
-ghost use Rattle.std.specs.Prelude.{◌≡◌, true, length};
-ghost use Rattle.model.specs.Bytes.{put};
+ghost use Rattle.std.specs.Prelude.{◌≡◌, true};
 ghost use Rattle.model.specs.Opening.{is_some};
-ghost use Rattle.model.specs.TagList.{max_key, fine_key, decode_tags};
-ghost use Rattle.model.specs.TagList as tags;
-ghost use Rattle.tag_list.specs.Found.{spot_in, IsSpot};
+ghost use Rattle.model.specs.TagList.{decode_tags};
+ghost use Rattle.tag_list.specs.Spot.{spot_in};
 
-use crate::key::lower;
-use crate::sizes::{TAG_COUNT_LENGTH, TAG_ENTRY_LENGTH};
+use crate::parts::{end_of, parts_of};
+use crate::sizes::entry_start;
 use block::read32;
+use model::Part;
 use std::cmp::Ordering;
 use text::{compare, part};
 
-// The place of a key among the tags, the byte where it stands or would, whether it is held, and how long its value is.
-#[derive(Clone, Copy)]
+// The place of a key among the tags, the byte where it stands or would, and where its value stands, if the list holds it.
+#[derive(Clone, Copy, Debug, PartialEq, Eq)]
 pub struct Found {
     pub place: usize,
     pub start: usize,
-    pub held: bool,
-    pub size: usize,
+    pub value: Option<Part>,
 }
 
 // Where a key stands in a tag list, or would.
+#[tactic(auto, using(crate::proofs::Walk::walk, crate::proofs::Walk::search_key))]
 pub fn find(list: &[u8], key: &[u8]) -> Found
     requires { is_some (decode_tags list.now) ≡ true }
-    ensures { IsSpot result (spot_in key.now list.now) }
+    ensures { result ≡ spot_in key.now list.now }
 {
     let count = read32(list, 0);
-    let mut i = 0;
-    let mut q = TAG_COUNT_LENGTH + TAG_ENTRY_LENGTH * count;
-    while i < count {
-        let p = TAG_COUNT_LENGTH + TAG_ENTRY_LENGTH * i;
-        let size = read32(list, p);
-        let value = read32(list, p + 4);
-        match compare(key, part(list, q, size)) {
+    let mut start = entry_start(count);
+    for place in 0..count {
+        let tag = parts_of(list, place, start);
+        match compare(key, part(list, start, tag.key.size)) {
             Ordering::Less => return Found {
-                place: i,
-                start: q,
-                held: false,
-                size: 0,
+                place,
+                start,
+                value: None,
             },
             Ordering::Equal => return Found {
-                place: i,
-                start: q,
-                held: true,
-                size: value,
+                place,
+                start,
+                value: Some(tag.value),
             },
-            Ordering::Greater => {
-                q += size + value;
-                i += 1;
-            }
+            Ordering::Greater => start = end_of(tag),
         }
     }
     Found {
-        place: i,
-        start: q,
-        held: false,
-        size: 0,
+        place: count,
+        start,
+        value: None,
     }
-}
-
-// The same of a key as it comes; it is lowered into the front of `space`.
-pub fn find_lowered(list: &[u8], key: &[u8], space: &mut [u8]) -> Found
-    requires { (is_some (decode_tags list.now) ≡ true) × (fine_key key.now ≡ true) × (length space.old ≡ max_key) }
-    ensures { IsSpot result (spot_in (tags.lower key.now) list.now) × (space.new ≡ put space.old 0 (tags.lower key.now)) }
-{
-    lower(space, key);
-    find(list, part(space, 0, key.len()))
 }

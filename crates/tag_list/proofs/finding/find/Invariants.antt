@@ -1,18 +1,12 @@
--- The key is where it is among the tags left, of which the first stands at place i, its key at q.
-use Rattle.std.proofs.Common.{◌≡◌, ◌≤◌, ◌-◌, length, drop}
+-- The key is where it is among the tags from the place on, the first of them with its key at `start`.
+use Rattle.std.proofs.Common.{◌≡◌, drop}
 use Rattle.model.specs.TagList.{keys_after, shown_tags}
-use Rattle.tag_list.specs.Spot.{spot}
-use Rattle.tag_list.specs.Found.{spot_in}
+use Rattle.tag_list.specs.Spot.{spot, spot_in}
 use Rattle.tag_list.proofs.Standing.{Stands}
 use Rattle.tag_list.proofs.finding.find.Given as goal
 
-abbrev pub invariant-loop-i : goal.invariant-loop-i
-invariant-loop-i l = record {
-  number : l.count ≡ length (shown_tags l.list);
-  inside : keys_after l.count ≤ length l.list;
-  stands : Stands l.list (keys_after l.i) l.q (drop l.i (shown_tags l.list));
-  found : spot_in l.key l.list ≡ spot l.key l.i l.q (drop l.i (shown_tags l.list));
+abbrev pub invariant-loop-place : goal.invariant-loop-place
+invariant-loop-place l = record {
+  stands : Stands l.list (keys_after l.place) l.start (drop l.place (shown_tags l.list));
+  found : spot_in l.key l.list ≡ spot l.key l.place l.start (drop l.place (shown_tags l.list));
 }
-
-abbrev pub decreases-loop-i : goal.decreases-loop-i
-decreases-loop-i l = l.count - l.i
