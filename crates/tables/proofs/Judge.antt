@@ -1,15 +1,17 @@
 -- The sizes of the graph name that tables show with an own name: the names are counted once, and the rest are counts at hand.
-use mathlib.Core.Path.{◌≡◌, refl, sym, ap, subst, ◌∙◌}
+use mathlib.Core.Path.{◌≡◌, refl, sym, ap, ◌∙◌}
 use mathlib.Core.Logic.{inl, inr, ⊎_elim}
 use mathlib.Core.Bool.{Bool, true, false, ◌||◌}
 use mathlib.Core.List.Memᴰ
 use mathlib.Core.List.{List, [], ◌∷◌, map, Memᴰ}
-use Rattle.std.specs.Prelude.{Option, Some, None}
-use Prim.Native.Nat.{ℕ, ◌+◌, ◌≤◌, ◌<◌}
+use Rattle.std.specs.Prelude.{Option, Some, None, Result, Ok, Err}
+use Rattle.std.proofs.lemmas.List.Edits.{length-insert}
+use Rattle.model.specs.declared.fault.Fault.{Fault}
+use Rattle.model.specs.Faults.{fault_number}
+use Prim.Native.Nat.{ℕ, suc, ◌+◌, ◌≤◌, ◌<◌}
 use native.Mathlib.Omega.{arith}
 use lib.ListN.{length, take, length-map}
 use lib.Seq.{length-take-le}
-use native.Mathlib.Numerals.{add-one}
 use lib.Dec.{ltb}
 use borrow.Author.Tests.{lt-ltb, le-ltb, eq-eqb, ne_eqb}
 use Rattle.std.specs.declared.cmp.Ordering.{Ordering}
@@ -20,21 +22,24 @@ use Rattle.model.specs.declared.Kind.TheVariants.{Subgraph, Translation}
 use Rattle.model.specs.Record.{Pair, GraphName, insert, with_pair, names, any_long, bodies, judge, max_name_bytes, max_names, max_bodies_bytes}
 use Rattle.model.specs.Layout.{encode}
 use Rattle.model.specs.Outcome.{kept_or}
-use Rattle.record.specs.Coded.{name_in, pair_in, meaning}
+use Rattle.record.specs.Coded.{name_in, pair_in, own_in, meaning}
 use Rattle.record.proofs.Sizes.{judge_sizes}
 use Rattle.record.proofs.Names.{all_names, names_ascending, names_members, own_listed}
 use Rattle.text.proofs.Order.{bytes_order}
 use Rattle.text.proofs.Ascending.{insert_members, insert_ascending, insert_present, ascending_unique}
-use Rattle.sorted.specs.Sorted.{lower}
-use Rattle.sorted.specs.Tables.{Tables, names_in, table_names, graph_in, read_out, places_of, pairs_in, holds_at, NamePut, PairPut}
+use Rattle.sorted.specs.Sorted.{sought}
+use Rattle.sorted.specs.Tables.{Tables, names_in, table_names, graph_in, read_out, places_of, pairs_in, NamePut, PairPut}
 use Rattle.sorted.specs.declared.putting.Sizes.{Sizes}
-use Rattle.tables.specs.Judging.{owned, own_if, names_and, count_fault, size_fault, outcome, NamesKept, Good, Complete, Storable}
-use Rattle.sorted.proofs.Lower.{lower_le, insert_new, insert_there}
-use Rattle.sorted.proofs.Splice.{length_spliced, length_bodies_spliced}
+use Rattle.tables.specs.Judging.{owned, names_and, count_fault, size_fault, outcome, NamesKept, Good, Complete, Storable}
+use Rattle.sorted.proofs.Lower.{found, missing}
+use Rattle.sorted.proofs.Splice.{length_bodies_inserted}
 use Rattle.sorted.proofs.Search.{length_names}
 use Rattle.sorted.proofs.Pairs.{names_with_pair}
-use Rattle.sorted.proofs.PutName.{holds_true, holds_false}
 use Rattle.sorted.proofs.PutPair.{insert_at_lower}
+
+-- 0 is the number of no fault
+pub no_fault : (e : Fault) → fault_number e ≡ 0 → ⊥
+no_fault e z = grind arith
 
 -- ------------------------------------------------------------------ the names with an own name
 
@@ -97,12 +102,12 @@ judge_tables t o g =
     )
 
 -- the number that tables are judged by, as their own name is absent, long, there or new; with room for one more the last two are the same
-module _ (refs : List ℕ) (pool : Bytes) (sizes : Sizes) (k : NamesKept refs pool sizes) (named : Bool) (own : Bytes) where
+module _ (refs : List ℕ) (pool : Bytes) (sizes : Sizes) (k : NamesKept refs pool sizes) where
   abbrev ns : List Bytes
   ns = names_in pool sizes.names refs
 
-  abbrev number : ℕ
-  number = size_fault (names_and (own_if named own) ns) sizes.subgraph sizes.translation
+  abbrev number : Option Bytes → ℕ
+  number own = size_fault (names_and own ns) sizes.subgraph sizes.translation
 
   abbrev counted : ℕ → ℕ → ℕ
   counted n bytes = count_fault n bytes sizes.subgraph sizes.translation
@@ -110,45 +115,32 @@ module _ (refs : List ℕ) (pool : Bytes) (sizes : Sizes) (k : NamesKept refs po
   count_kept : length ns ≡ sizes.names
   count_kept = length_names pool sizes.names refs k.count
 
-  pub fault_without : named ≡ false → number ≡ counted sizes.names sizes.bytes
-  fault_without e = rw (e, k.short, count_kept, ← k.total)
+  pub fault_without : number None ≡ counted sizes.names sizes.bytes
+  fault_without = rw (k.short, count_kept, ← k.total)
 
-  module _ (e : named ≡ true) where
-    pub fault_long : max_name_bytes < length own → number ≡ 11
-    fault_long h = rw (e, any_insert own ns, lt-ltb max_name_bytes (length own) h)
+  module _ (own : Bytes) where
+    pub fault_long : max_name_bytes < length own → number (Some own) ≡ 11
+    fault_long h = rw (any_insert own ns, lt-ltb max_name_bytes (length own) h)
 
-    module _ (p : ℕ) (place : p ≡ lower compare_bytes own ns) where
-      pub fault_there : holds_at ns p own ≡ true → number ≡ counted sizes.names sizes.bytes
-      fault_there h =
-          let (l, d) = holds_true ns p own h in
-          rw (e, insert_there bytes_order [] own ns p k.order l d, k.short, count_kept, ← k.total)
+    pub fault_there : (p : ℕ) → Ok p ≡ sought compare_bytes own ns → number (Some own) ≡ counted sizes.names sizes.bytes
+    fault_there p h = rw ((found bytes_order [] own ns p h).insert, k.short, count_kept, ← k.total)
 
-      pub fault_new : length own ≤ max_name_bytes → holds_at ns p own ≡ false → number ≡ counted (sizes.names + 1) (sizes.bytes + length own)
-      fault_new s h =
-          let l = lower_le compare_bytes own ns in
-          let new = insert_new bytes_order [] own ns k.order (rw place at (holds_false ns p own h)) in
-          let short : any_long (insert compare_bytes own ns) ≡ false = any_insert own ns ∙ rw (le-ltb max_name_bytes (length own) s) k.short in
-          rw (
-            e,
-            short,
-            new,
-            length_spliced own (lower compare_bytes own ns) ns l,
-            length_bodies_spliced own (lower compare_bytes own ns) ns l,
-            count_kept,
-            ← k.total,
-            add-one sizes.names,
-          )
+    pub fault_new : (p : ℕ) → length own ≤ max_name_bytes → Err p ≡ sought compare_bytes own ns → number (Some own) ≡ counted (sizes.names + 1) (sizes.bytes + length own)
+    fault_new p s h =
+        let m = missing bytes_order [] own ns p h in
+        let short : any_long (insert compare_bytes own ns) ≡ false = any_insert own ns ∙ rw (le-ltb max_name_bytes (length own) s) k.short in
+        rw (short, m.insert, length-insert ns p own m.within, length_bodies_inserted own p ns m.within, count_kept, ← k.total)
 
-    pub fault_room : length own ≤ max_name_bytes → sizes.names < max_names → sizes.bytes + length own ≤ max_bodies_bytes → number ≡ counted sizes.names sizes.bytes
+    pub fault_room : length own ≤ max_name_bytes → sizes.names + 1 ≤ max_names → sizes.bytes + length own ≤ max_bodies_bytes → number (Some own) ≡ counted sizes.names sizes.bytes
     unfolding count_fault
-    fault_room s n b = go (holds_at ns (lower compare_bytes own ns) own) refl
+    fault_room s n b = go (sought compare_bytes own ns) refl
       where
-        go : (t : Bool) → holds_at ns (lower compare_bytes own ns) own ≡ t → number ≡ counted sizes.names sizes.bytes
-        go true h = fault_there (lower compare_bytes own ns) refl h
-        go false h =
-            fault_new (lower compare_bytes own ns) refl s h
+        go : (r : Result ℕ ℕ) → r ≡ sought compare_bytes own ns → number (Some own) ≡ counted sizes.names sizes.bytes
+        go (Ok p) h = fault_there p h
+        go (Err p) h =
+            fault_new p s h
             ∙ rw (
-              le-ltb max_names (sizes.names + 1) (omega arith),
+              le-ltb max_names (sizes.names + 1) n,
               le-ltb max_names sizes.names (omega arith),
               le-ltb max_bodies_bytes (sizes.bytes + length own) b,
               le-ltb max_bodies_bytes sizes.bytes (omega arith),
@@ -156,32 +148,37 @@ module _ (refs : List ℕ) (pool : Bytes) (sizes : Sizes) (k : NamesKept refs po
 
 -- ------------------------------------------------------------------ what is stored
 
-module _ (t : Tables) (own : ℕ) (r : Complete t own) where
+-- what is over its limit of tables whose names are all used, by their own counts
+abbrev counts_fault : Tables → ℕ
+counts_fault t = count_fault t.sizes.names t.sizes.bytes t.sizes.subgraph t.sizes.translation
+
+module _ (t : Tables) (own : Option Bytes) (good : Good own t) where
   abbrev g : GraphName
-  g = meaning (read_out t own)
+  g = owned own (graph_in t)
 
-  abbrev fault : ℕ
-  fault = count_fault t.sizes.names t.sizes.bytes t.sizes.subgraph t.sizes.translation
-
-  count_names : length (table_names t) ≡ t.sizes.names
-  count_names = length_names t.pool t.sizes.names t.refs r.kept.count
-
-  judge_complete : judge g ≡ fault
+  judge_good : judge g ≡ counts_fault t
   unfolding judge count_fault
-  judge_complete =
+  judge_good =
       rw (
-        r.used,
-        r.kept.short,
-        count_names,
-        ← r.kept.total,
-        length_shown (table_names t) t.sizes.subgraph t.subs r.kept.subgraph.within,
-        length_shown (table_names t) t.sizes.translation t.trans r.kept.translation.within,
+        good.used,
+        good.kept.short,
+        length_names t.pool t.sizes.names t.refs good.kept.count,
+        ← good.kept.total,
+        length_shown (table_names t) t.sizes.subgraph t.subs good.kept.subgraph.within,
+        length_shown (table_names t) t.sizes.translation t.trans good.kept.translation.within,
       )
 
-  pub judged_storable : judge g ≡ 0 → Storable t own
+  pub kept_stored : (b : Bytes) → 0 ≡ counts_fault t → kept_or b g ≡ outcome (Ok tt) (encode g)
+  kept_stored b e = rw (eq-eqb (judge g) 0 (judge_good ∙ sym e))
+
+  pub kept_refused : (b : Bytes) (e : Fault) → fault_number e ≡ counts_fault t → outcome (Err e) b ≡ kept_or b g
+  kept_refused b e f = rw (ne_eqb (judge g) 0 (λ z. no_fault e (f ∙ sym judge_good ∙ z)), judge_good, f)
+
+module _ (t : Tables) (own : ℕ) (r : Complete t own) where
+  pub judged_storable : judge (meaning (read_out t own)) ≡ 0 → Storable t own
   judged_storable e =
-      let s = judge_sizes g e in
-      let n = ap length r.used ∙ count_names in
+      let s = judge_sizes (meaning (read_out t own)) e in
+      let n = ap length r.used ∙ length_names t.pool t.sizes.names t.refs r.kept.count in
       let b = ap (λ (ns : List Bytes). length (bodies ns)) r.used in
       let ls = length_shown (table_names t) t.sizes.subgraph t.subs r.kept.subgraph.within in
       let lt = length_shown (table_names t) t.sizes.translation t.trans r.kept.translation.within in
@@ -194,15 +191,6 @@ module _ (t : Tables) (own : ℕ) (r : Complete t own) where
           translation = omega (arith, s.translations);
         };
       }
-
-  pub complete_storable : fault ≡ 0 → Storable t own
-  complete_storable e = judged_storable (judge_complete ∙ e)
-
-  pub kept_stored : (b : Bytes) → fault ≡ 0 → kept_or b g ≡ outcome 0 (encode g)
-  kept_stored b e = rw (eq-eqb (judge g) 0 (judge_complete ∙ e))
-
-  pub kept_refused : (b : Bytes) → (fault ≡ 0 → ⊥) → kept_or b g ≡ outcome fault b
-  kept_refused b n = rw (ne_eqb (judge g) 0 (λ e. n (sym judge_complete ∙ e)), judge_complete)
 
 -- a pair put in uses its names
 owned_pair : (own : Option Bytes) (kind : Kind) (p : Pair) (g : GraphName) → owned own (with_pair kind p g) ≡ with_pair kind p (owned own g)
@@ -230,10 +218,10 @@ module _ (t u : Tables) (own : Bytes) (p : ℕ) (put : NamePut t own u p) where
   at_place : (p < length (table_names u)) × (name_in (table_names u) p ≡ own)
   at_place = rw (put.names, put.place) (insert_at_lower bytes_order [] own (table_names t))
 
-  pub meaning_own : meaning (read_out u (p + 1)) ≡ owned (Some own) (graph_in t)
-  meaning_own = rw (add-one p, at_place.1) (ap (owned (Some own)) put.graph)
+  pub meaning_own : meaning (read_out u (suc p)) ≡ owned (Some own) (graph_in t)
+  meaning_own = rw at_place.1 (ap (owned (Some own)) put.graph)
 
-  pub complete_own : Good None t → Complete u (p + 1)
+  pub complete_own : Good None t → Complete u (suc p)
   complete_own good =
       let n = length_names u.pool u.sizes.names u.refs put.kept.count in
       record {
@@ -242,26 +230,31 @@ module _ (t u : Tables) (own : Bytes) (p : ℕ) (put : NamePut t own u p) where
         used = ap names meaning_own ∙ names_owned (Some own) (graph_in t) ∙ ap (insert compare_bytes own) good.used ∙ sym put.names;
       }
 
--- so are tables among whose names the own name is
-module _ (t : Tables) (own : Bytes) (p : ℕ) (good : Good (Some own) t) (place : p ≡ lower compare_bytes own (table_names t)) where
-  there : insert compare_bytes own (table_names t) ≡ table_names t
-  there =
-      insert_present bytes_order own (table_names t) good.kept.order
-      (rw good.used at (own_listed (owned (Some own) (graph_in t)) own (Memᴰ.head refl)))
+-- a name that is among others is found there
+pub among : (own : Bytes) (ns : List Bytes) (r : Result ℕ ℕ) → insert compare_bytes own ns ≡ ns → r ≡ sought compare_bytes own ns → (p : ℕ) × (r ≡ Ok p) × (p < length ns) × (name_in ns p ≡ own)
+among own ns (Ok p) e h = let f = found bytes_order [] own ns p h in (p, refl, f.within, f.there)
+among own ns (Err p) e h =
+    let m = missing bytes_order [] own ns p h in
+    let l = length-insert ns p own m.within in
+    absurd (omega (arith, ap length (sym m.insert ∙ e)))
 
-  placed : (p < length (table_names t)) × (name_in (table_names t) p ≡ own)
-  placed =
-      rw place
-      (subst (λ (ns : List Bytes). (lower compare_bytes own (table_names t) < length ns) × (name_in ns (lower compare_bytes own (table_names t)) ≡ own)) there
-      (insert_at_lower bytes_order [] own (table_names t)))
+-- so are tables among whose names the own name is, with the place where it is found
+pub named_among : (t : Tables) (own : Option Bytes) → Good own t → names_and own (table_names t) ≡ table_names t
+named_among t None good = refl
+named_among t (Some own) good =
+    insert_present bytes_order own (table_names t) good.kept.order
+    (rw good.used at (own_listed (owned (Some own) (graph_in t)) own (Memᴰ.head refl)))
 
-  pub meaning_placed : meaning (read_out t (p + 1)) ≡ owned (Some own) (graph_in t)
-  meaning_placed = rw (add-one p, placed.1)
+module _ (t : Tables) (own : Option Bytes) (good : Good own t) where
+  module _ (n : ℕ) (within : n ≤ t.sizes.names) (place : own_in (table_names t) n ≡ own) where
+    pub meaning_placed : meaning (read_out t n) ≡ owned own (graph_in t)
+    meaning_placed = ap (λ (o : Option Bytes). owned o (graph_in t)) place
 
-  pub complete_placed : Complete t (p + 1)
-  complete_placed =
-      let n = length_names t.pool t.sizes.names t.refs good.kept.count in
-      record { kept = good.kept; own_within = omega (arith, placed.0); used = ap names meaning_placed ∙ good.used }
+    complete_placed : Complete t n
+    complete_placed = record { kept = good.kept; own_within = within; used = ap names meaning_placed ∙ good.used }
+
+    pub storable_placed : 0 ≡ counts_fault t → Storable t n
+    storable_placed e = judged_storable t n complete_placed (ap judge meaning_placed ∙ judge_good t own good ∙ sym e)
 
 -- the ways through `size_fault`: the own name is absent, long, among the names, or one more; or there is room for it either way
 pub ruleset faults = (fault_without, fault_long, fault_there, fault_new, fault_room)

@@ -10,7 +10,7 @@ use native.Mathlib.Omega.{arith}
 use native.Mathlib.Nat.{zero-add}
 use native.Mathlib.Numerals.{add-one}
 use lib.ListN.{length, take, drop, get_or, set, length-append, length-drop}
-use lib.Seq.{take-suc, take-suc-set, take_all, take-append_seam, drop-append_seam}
+use lib.Seq.{take-suc, take-suc-set, take_all, take_at, take-append_seam, drop-append_seam}
 use Rattle.model.specs.Bytes.{Bytes, compare_numbers, compare_bytes, put}
 use Rattle.model.specs.Record.{GraphName, names, bodies}
 use Rattle.model.specs.Layout.{counts_length, entry_length, body_start, body_length, name_count, pair_count, shown, decode, bodies_at}
@@ -52,8 +52,9 @@ numbers_turn ps i x y a h k d s e =
       second_of x y s,
     )
 
-pub numbers_all : (ps : List (ℕ × ℕ)) (n i : ℕ) (a : List ℕ) → length ps ≡ n → i ≤ n → n ≤ i → pairs_in i a ≡ take i ps → pairs_in n a ≡ ps
-numbers_all ps n i a l h k e = let d : i ≡ n = omega arith in rw d at e ∙ take_all n ps (omega arith)
+-- all of them copied, and whatever stands behind them
+pub numbers_all : (ps : List (ℕ × ℕ)) (n i : ℕ) (a rest : List ℕ) → length ps ≡ n → length a ≡ n → n ≤ i → pairs_in i a ≡ take i ps → pairs_in n (a ++ rest) ≡ ps
+numbers_all ps n i a rest l k h e = rw (take_at a rest n k) (rw (take_all i a (omega arith), take_all i ps (omega arith)) at e)
 
 -- the entries, as the code reads them
 pub entry_read : (b : Bytes) (i : ℕ) → i < name_count b → get_or (entries_of b) i (0, 0) ≡ (body_start b i, body_length b i)

@@ -2,23 +2,25 @@
 use mathlib.Core.Path.{◌≡◌, refl, sym, ap, ◌∙◌}
 use mathlib.Core.Bool.{true, false≢true}
 use Rattle.std.specs.Prelude.{Option, Some, None}
-use Prim.Native.Nat.{ℕ, zero, suc, ◌+◌, ◌-◌, ◌*◌, ◌≤◌, ◌<◌}
+use Prim.Native.Nat.{ℕ, zero, suc, ◌+◌, ◌*◌, ◌≤◌, ◌<◌}
 use native.Mathlib.Omega.{arith}
 use lib.Dec.{lit≤}
 use lib.ListN.{length, drop, length-drop}
 use lib.Seq.{length-take-le}
 use Rattle.model.specs.Bytes.{Bytes}
-use Rattle.model.specs.Record.{GraphName, names, max_name_bytes}
-use Rattle.model.specs.Layout.{name_count, own_number, pair_length, body_start, body_length, bodies_at, name_at, shown, decode, pair_count, table_at}
+use Rattle.model.specs.Record.{GraphName, names, max_name_bytes, max_names}
+use Rattle.model.specs.Layout.{record_length, name_count, own_number, pair_length, body_start, body_length, bodies_at, name_at, shown, decode, pair_count, table_at}
 use Rattle.model.specs.Questions.{pairs_of}
 use Rattle.model.specs.Opening.{is_some}
 use Rattle.model.specs.Outcome.{name_or}
 use Rattle.model.specs.declared.Kind.{Kind}
 use Rattle.model.specs.declared.Kind.TheVariants.{Subgraph, Translation}
+use Rattle.std.specs.Option.{option_map}
+use Rattle.record.specs.Reader.{place_numbered}
 use Rattle.record.specs.Test.{names_of}
 use Rattle.record.proofs.Held.{Held}
 use Rattle.record.proofs.Laws.{decoded, decode_held, decode_shown}
-use Rattle.record.proofs.Own.{own_none, own_some}
+use Rattle.record.proofs.Own.{own_shown}
 use Rattle.record.proofs.Access.{name_within, record_names, record_count, record_pair_count}
 use Rattle.record.proofs.Sizes.{Sizes, judge_sizes}
 
@@ -60,12 +62,23 @@ module _ (b : Bytes) (v : is_some (decode b) ≡ true) where
   pair_inside Subgraph i h = omega (arith, is_held.long, is_held.count, is_held.subgraphs)
   pair_inside Translation i h = omega (arith, is_held.long, is_held.count, is_held.subgraphs, is_held.translations)
 
+-- what calls that read a record ask: how long it is, and how far its counts go
+module _ (b : Bytes) (v : is_some (decode b) ≡ true) where
+  pub held_long : length b ≡ record_length
+  held_long = (is_held b v).long
+
+  pub held_count : name_count b ≤ max_names
+  held_count = (is_held b v).count
+
+  pub held_own : own_number b ≤ name_count b
+  held_own = (is_held b v).own
+
+pub ruleset held = (held_long, held_count, held_own, pair_inside, length-take-le)
+
 -- the own name is short, where there is one
 pub own_short : (b : Bytes) → is_some (decode b) ≡ true → length (name_or (shown b).name) ≤ max_name_bytes
-own_short b v = go (own_number b) refl
+own_short b v = rw (own_shown b) (go (own_number b) refl)
   where
-    go : (own : ℕ) → own_number b ≡ own → length (name_or (shown b).name) ≤ max_name_bytes
-    go zero e = rw (own_none b (own_number b) refl e) (lit≤ tt)
-    go (suc i) e =
-        let h = is_held b v in
-        rw (own_some b (own_number b) refl (λ z. omega arith)) (name_short b v (own_number b - 1) (omega (arith, h.own)))
+    go : (own : ℕ) → own_number b ≡ own → length (name_or (option_map (name_at b) (place_numbered own))) ≤ max_name_bytes
+    go zero e = lit≤ tt
+    go (suc i) e = name_short b v i (omega (arith, (is_held b v).own))

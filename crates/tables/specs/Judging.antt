@@ -1,7 +1,8 @@
 -- The sizes that tables are judged by, with an own name kept apart; and what can be stored.
-use Rattle.std.specs.Prelude.{◌≡◌, Bool, true, false, cond, ◌||◌, List, ℕ, ◌≤◌, length, ltb, Option, Some, None}
+use Rattle.std.specs.Prelude.{◌≡◌, false, cond, ◌||◌, List, ℕ, suc, ◌≤◌, length, ltb, Option, Some, None}
 use Rattle.model.specs.Bytes.{Bytes, compare_bytes}
 use Rattle.model.specs.Record.{GraphName, insert, names, any_long, bodies, max_names, max_pairs, max_bodies_bytes}
+use Rattle.model.specs.Opening.{Given, number_of}
 use Rattle.model.specs.Outcome.{Outcome}
 use Rattle.model.specs.Statements.{Ascending}
 use Rattle.record.specs.Coded.{meaning}
@@ -11,11 +12,6 @@ use Rattle.sorted.specs.Tables.{Tables, names_in, table_names, graph_in, read_ou
 -- a graph name with this own name, or none
 abbrev pub owned : Option Bytes → GraphName → GraphName
 owned name g = record { name = name; subgraph = g.subgraph; translation = g.translation }
-
--- an own name, if there is one
-abbrev pub own_if : Bool → Bytes → Option Bytes
-own_if false own = None
-own_if true own = Some own
 
 -- the names, with an own name among them
 abbrev pub names_and : Option Bytes → List Bytes → List Bytes
@@ -31,9 +27,14 @@ count_fault count bytes subgraph translation =
 abbrev pub size_fault : List Bytes → ℕ → ℕ → ℕ
 size_fault ns subgraph translation = cond (any_long ns) 11 (count_fault (length ns) (length (bodies ns)) subgraph translation)
 
--- a number, and what the buffer holds then
-abbrev pub outcome : ℕ → Bytes → Outcome
-outcome number buffer = record { number = number; buffer = buffer }
+-- what an answer comes to, with what the buffer holds then
+abbrev pub outcome : Given Unit → Bytes → Outcome
+outcome answer buffer = record { number = number_of answer; buffer = buffer }
+
+-- the number of an own name's place: one more, or 0 for none
+abbrev pub numbered : Option ℕ → ℕ
+numbered None = 0
+numbered (Some place) = suc place
 
 -- what is known of the names of tables
 pub record NamesKept (refs : List ℕ) (pool : Bytes) (sizes : Sizes) : Type 0 where

@@ -9,4 +9,4 @@ mod storing;
 pub use judging::{keep_named, size_fault};
 pub use loading::{load, sizes_of};
 pub use merging::add_pairs;
-pub use storing::{clear, store};
+pub use storing::store;

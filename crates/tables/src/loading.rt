@@ -17,34 +17,31 @@ use sorted::Sizes;
 use text::{copy, part};
 
 // Copies start and length of each name.
+#[tactic(auto, using(crate::proofs::Records::held))]
 fn load_entries(refs: &mut [u32], b: &[u8])
     requires { (is_some (decode b.now) ≡ true) × (name_count b.now ≤ length refs.old) }
     ensures { pairs_in (name_count b.now) refs.new ≡ entries_of b.now }
 {
-    let n = name_count(b);
-    let mut i = 0;
-    while i < n {
-        refs[i] = (body_start(b, i) * 65536 + body_length(b, i)) as u32;
-        i += 1;
+    for (i, entry) in refs[..name_count(b)].iter_mut().enumerate() {
+        *entry = (body_start(b, i) * 65536 + body_length(b, i)) as u32;
     }
 }
 
 // Copies the pairs of a kind.
+#[tactic(auto, using(crate::proofs::Records::held))]
 fn load_pairs(kind: Kind, pairs: &mut [u32], b: &[u8])
     requires { (is_some (decode b.now) ≡ true) × (pair_count kind b.now ≤ length pairs.old) }
     ensures { pairs_in (pair_count kind b.now) pairs.new ≡ pairs_of_kind kind b.now }
 {
-    let n = pair_count(b, kind);
     let at = table_at(b, kind);
-    let mut i = 0;
-    while i < n {
+    for (i, pair) in pairs[..pair_count(b, kind)].iter_mut().enumerate() {
         let p = at + PAIR_LENGTH * i;
-        pairs[i] = (pair_from(b, p) * 65536 + pair_to(b, p)) as u32;
-        i += 1;
+        *pair = (pair_from(b, p) * 65536 + pair_to(b, p)) as u32;
     }
 }
 
 // Copies the bodies, which are this long together.
+#[tactic(auto, using(crate::proofs::Records::held))]
 fn load_bodies(pool: &mut [u8], b: &[u8], bytes: usize)
     requires { (is_some (decode b.now) ≡ true) × (bytes ≡ length (bodies (names_of b.now))) × (bytes ≤ length pool.old) }
     ensures { pool.new ≡ put pool.old 0 (bodies (names_of b.now)) }
@@ -53,6 +50,7 @@ fn load_bodies(pool: &mut [u8], b: &[u8], bytes: usize)
 }
 
 // How long the bodies of the n names of a record are together.
+#[tactic(auto, using(crate::proofs::Records::held))]
 fn bodies_length(b: &[u8], n: usize) -> usize
     requires { (is_some (decode b.now) ≡ true) × (n ≡ name_count b.now) }
     ensures { result ≡ length (bodies (names_of b.now)) }
@@ -64,6 +62,7 @@ fn bodies_length(b: &[u8], n: usize) -> usize
 }
 
 // How much of the tables a record takes.
+#[tactic(auto, using(crate::proofs::Records::held))]
 pub fn sizes_of(b: &[u8]) -> Sizes
     requires { is_some (decode b.now) ≡ true }
     ensures { result ≡ sizes_of (shown b.now) }

@@ -11,6 +11,7 @@ use record::{PAIR_LENGTH, name_at, pair_from, pair_to};
 use sorted::{Sizes, put_pair};
 
 // Puts all pairs of a kind of another record into the tables.
+#[tactic(auto, using(crate::proofs::Records::held))]
 pub fn add_pairs(
     kind: Kind,
     refs: &mut [u32],
@@ -27,13 +28,11 @@ pub fn add_pairs(
     let count = record::pair_count(other, kind);
     let at = record::table_at(other, kind);
     let mut done = sizes;
-    let mut i = 0;
-    while i < count {
+    for i in 0..count {
         let p = at + PAIR_LENGTH * i;
         let from = name_at(other, pair_from(other, p));
         let to = name_at(other, pair_to(other, p));
         done = put_pair(kind, refs, subs, trans, pool, done, from, to);
-        i += 1;
     }
     done
 }

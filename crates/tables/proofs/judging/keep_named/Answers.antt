@@ -1,44 +1,35 @@
--- The own name is absent, or it is found at its place.
-use mathlib.Core.Path.{◌≡◌, sym, ap, subst, ◌∙◌}
-use Rattle.std.specs.Prelude.{Option, Some}
-use Rattle.model.specs.Bytes.{Bytes}
-use Rattle.model.specs.Layout.{shown}
-use Rattle.model.specs.Outcome.{kept_or}
-use Rattle.sorted.specs.Tables.{tables, graph_in}
-use Rattle.tables.specs.Judging.{owned, Good}
-use Rattle.tables.proofs.Judge.{complete_without, complete_placed, meaning_placed}
-use Rattle.record.proofs.Own.{named as an_own, unnamed as no_own}
+-- The counts are the sizes of the graph name; its own name is among the names.
+use Rattle.std.proofs.Common.{◌∙◌, ap, sym}
+use Rattle.std.proofs.lemmas.Result.{err_from_is_err_and}
+use Rattle.std.specs.Prelude.{Ok}
+use Rattle.model.specs.Layout.{encode}
+use Rattle.tables.specs.Judging.{outcome}
+use Rattle.sorted.specs.Tables.{Tables, tables}
 use Rattle.tables.proofs.Records.{is_held}
-use native.Mathlib.Omega.{arith}
+use Rattle.tables.proofs.Judge.{kept_refused, kept_stored, named_among, meaning_placed, storable_placed}
 use Rattle.tables.proofs.judging.keep_named.Goals as goal
+use Rattle.tables.proofs.judging.keep_named.Goals.{Start}
 
-pub has_name-requires : goal.has_name-requires
-has_name-requires c = omega (arith, (is_held c.args.buffer.now c.requires.0).long)
+abbrev t : Start → Tables
+t c = tables c.args.refs.now c.args.subs.now c.args.trans.now c.args.pool.now c.args.sizes
 
-pub keep-requires : goal.keep-requires
-keep-requires c =
-    let a = c.args in
-    let t = tables a.refs.now a.subs.now a.trans.now a.pool.now a.sizes in
-    let none_own = no_own (shown a.buffer.now).name (sym c.has_name.ensures ∙ c.if-not-has_name.true) in
-    (complete_without t (subst (λ (o : Option Bytes). Good o t) none_own c.requires.1), (is_held a.buffer.now c.requires.0).long)
+pub returns-in_err-count_fault : goal.returns-in_err-count_fault
+returns-in_err-count_fault c =
+    let p = err_from_is_err_and c.from_residual.result c.from_residual.ensures.1 in
+    rw (p.1, p.2) (kept_refused (t (goal.at.returns-in_err-count_fault c).Start) _ c.requires.1 c.args.buffer.now c.in_err-count_fault.field-0.0 c.in_err-count_fault.ensures)
 
-pub own_name-requires : goal.own_name-requires
-own_name-requires c = let h = is_held c.args.buffer.now c.requires.0 in omega (arith, h.long, h.own, h.count)
+pub place_among-own-requires : goal.place_among-own-requires
+place_among-own-requires c =
+    (c.requires.1.kept.count, c.requires.1.kept.order, rw c.own_name.ensures (named_among (t (goal.at.place_among-own-requires c).Start) _ c.requires.1))
 
-pub keep-requires-2 : goal.keep-requires-2
-keep-requires-2 c =
-    let a = c.args in
-    let t = tables a.refs.now a.subs.now a.trans.now a.pool.now a.sizes in
-    let own : (shown a.buffer.now).name ≡ Some c.own_name.result.now =
-    an_own (shown a.buffer.now).name (sym c.has_name.ensures ∙ c.if-not-has_name.false) ∙ ap (λ (x : Bytes). Some x) (sym c.own_name.ensures) in
-    (complete_placed t _ c.name_place-p.result (subst (λ (o : Option Bytes). Good o t) own c.requires.1) c.name_place-p.ensures.0, (is_held a.buffer.now c.requires.0).long)
+pub store-requires : goal.store-requires
+store-requires c =
+    let p = c.place_among-own.ensures in
+    (storable_placed (t (goal.at.store-requires c).Start) _ c.requires.1 _ p.within (p.place ∙ c.own_name.ensures) c.in_ok-count_fault.ensures, (is_held c.args.buffer.now c.requires.0).long)
 
 pub returns : goal.returns
 returns c =
-    let a = c.args in
-    let t = tables a.refs.now a.subs.now a.trans.now a.pool.now a.sizes in
-    let own : (shown a.buffer.now).name ≡ Some c.own_name.result.now =
-    an_own (shown a.buffer.now).name (sym c.has_name.ensures ∙ c.if-not-has_name.false) ∙ ap (λ (x : Bytes). Some x) (sym c.own_name.ensures) in
-    c.keep-2.ensures
-    ∙ ap (kept_or a.buffer.now)
-    (meaning_placed t _ c.name_place-p.result (subst (λ (o : Option Bytes). Good o t) own c.requires.1) c.name_place-p.ensures.0 ∙ ap (λ (o : Option Bytes). owned o (graph_in t)) (sym own))
+    let p = c.place_among-own.ensures in
+    let u = t (goal.at.returns c).Start in
+    ap (outcome (Ok tt)) (c.store.ensures ∙ ap encode (meaning_placed u _ c.requires.1 _ p.within (p.place ∙ c.own_name.ensures)))
+    ∙ sym (kept_stored u _ c.requires.1 c.args.buffer.now c.in_ok-count_fault.ensures)

@@ -3,13 +3,8 @@ use mathlib.Core.Path.{ap, ap₂, ◌∙◌}
 use Prim.Native.Nat.{ℕ}
 use lib.ListN.{take, drop}
 use Rattle.model.specs.Bytes.{put}
-use Rattle.tables.proofs.Records.{is_held}
 use Rattle.tables.proofs.Loaded.{taken_bodies}
-use native.Mathlib.Omega.{arith}
 use Rattle.tables.proofs.loading.load_bodies.Goals as goal
-
-pub bodies_at-requires : goal.bodies_at-requires
-bodies_at-requires c = omega (arith, (is_held c.args.b.now c.requires.0).long)
 
 pub returns : goal.returns
 returns c =

@@ -5,12 +5,8 @@ use lib.ListN.{length}
 use Rattle.model.specs.declared.Kind.TheVariants.{Subgraph, Translation}
 use Rattle.model.specs.Bytes.{Bytes}
 use Rattle.model.specs.Record.{bodies}
-use Rattle.tables.proofs.Records.{is_held, shown_names, shown_count, pairs_counted}
-use native.Mathlib.Omega.{arith}
+use Rattle.tables.proofs.Records.{shown_names, shown_count, pairs_counted}
 use Rattle.tables.proofs.loading.sizes_of.Goals as goal
-
-pub head_at-h-requires : goal.head_at-h-requires
-head_at-h-requires c = omega (arith, (is_held c.args.b.now c.requires).long)
 
 pub returns : goal.returns
 returns c i =

@@ -1,20 +1,13 @@
 -- The entries left, written behind what was, are all of them written at the start.
-use mathlib.Core.Path.{◌≡◌}
-use Prim.Native.Nat.{◌+◌, ◌-◌, ◌*◌, ◌≤◌}
-use mathlib.Core.List.{map}
-use lib.Seq.{slice}
+use Rattle.std.proofs.Common.{◌≡◌, ◌+◌, ◌*◌, ◌≤◌, map, drop}
 use Rattle.model.specs.Layout.{entry_length, entries}
 use Rattle.model.specs.Bytes.{put}
-use Rattle.sorted.specs.Tables.{body_in, names_in}
+use Rattle.sorted.specs.Tables.{body_in}
 use Rattle.tables.proofs.storing.store_entries.Given as goal
 
-abbrev pub invariant-loop-i : goal.invariant-loop-i
-invariant-loop-i l = record {
-  within : l.i ≤ l.n;
-  place : l.p ≡ l.at + entry_length * l.i;
-  bounded : l.start ≤ 65536 * l.i;
-  output : put l.buffer l.p (entries l.start (map (body_in l.pool) (slice l.i l.n l.refs))) ≡ put l.fn.buffer l.at (entries 0 (names_in l.pool l.n l.refs));
+abbrev pub invariant-loop-r : goal.invariant-loop-r
+invariant-loop-r l = record {
+  place : l.p ≡ l.at + entry_length * l.r-index;
+  bounded : l.start ≤ 65536 * l.r-index;
+  output : put l.buffer l.p (entries l.start (map (body_in l.pool) (drop l.r-index l.r-items))) ≡ put l.fn.buffer l.at (entries 0 (map (body_in l.pool) l.r-items));
 }
-
-abbrev pub decreases-loop-i : goal.decreases-loop-i
-decreases-loop-i l = l.n - l.i
