@@ -1,14 +1,18 @@
 -- The marks of the places that pairs use: a place is marked exactly if it stands in a pair or was marked before.
+use mathlib.Core.Logic.{◌≢◌}
 use mathlib.Core.Path.{◌≡◌, refl, sym, ◌∙◌}
-use mathlib.Core.Bool.{Bool, true, false, ◌||◌}
+use mathlib.Core.Bool.{Bool, true, false, ◌&&◌, ◌||◌, and-false}
+use Rattle.std.proofs.Common.{length-take-le, get_or-take}
 use mathlib.Core.List.{List, [], ◌∷◌}
 use Prim.Native.Nat.{ℕ, zero, suc, ◌+◌, ◌≤◌, ◌<◌}
 use native.Mathlib.Omega.{arith}
 use native.Mathlib.Decide.{ℕ_discrete}
 use lib.Dec.{eqb}
-use lib.ListN.{length, set, replicate, length-set, length-replicate, get_or-replicate}
+use lib.ListN.{length, take, set, replicate, length-set, length-replicate, get_or-replicate}
 use lib.Seq.{get_or-set_same, get_or-set_other}
 use borrow.Author.Tests.{eq-eqb, ne_eqb}
+use Rattle.std.specs.Bool.{MatchBool}
+use Rattle.std.specs.List.{AllWithin, HoldsAt}
 use Rattle.model.specs.Bytes.{Bytes}
 use Rattle.record.specs.Test.{Under, has_place, is_used, every, marks, mark_own, is_one}
 use Rattle.record.proofs.Words.{under_weaken}
@@ -82,3 +86,29 @@ marks_used own ps qs n room h o u w = every_same _ _ n at
     at i k =
         one_marks qs (marks ps m) i (rw (length_marks ps m, long) (under_weaken n room qs h w))
         ∙ rw (one_marks ps m i (rw long (under_weaken n room ps h u)), one_own own i room (omega arith) (omega arith))
+
+-- ------------------------------------------------------------------ all marked
+
+every_all : (f : ℕ → Bool) (n : ℕ) → ((i : ℕ) → i < n → f i ≡ true) → every f n ≡ true
+unfolding every
+every_all f zero h = refl
+every_all f (suc n) h = rw (every_all f n (λ i l. h i (omega arith)), h n (omega arith))
+
+every_fails : (f : ℕ → Bool) (n k : ℕ) → k < n → f k ≡ false → every f n ≡ false
+unfolding every
+every_fails f zero k l e = absurd (omega arith)
+every_fails f (suc n) k l e = go (ℕ_discrete k n) λ d. every_fails f n k (omega (arith, d)) e
+  where
+    go : Dec (k ≡ n) → ((k ≡ n → ⊥) → every f n ≡ false) → (every f n && f n) ≡ false
+    go (yes d) h = rw (← d, e) (and-false (every f k))
+    go (no d) h = rw (h d)
+
+-- whether each of the first n bytes is 1, by the bytes themselves
+pub every_within : (m : Bytes) (n : ℕ) (r : Bool) → n ≤ length m
+    → MatchBool r (AllWithin (λ x. x ≡ 1) (take n m) 0 (length (take n m))) ((k : ℕ) × (k < length (take n m)) × HoldsAt (λ x. x ≢ 1) (take n m) k)
+    → r ≡ every (is_one m) n
+every_within m n true h a =
+    sym (every_all (is_one m) n λ i l. eq-eqb _ _ (sym (get_or-take n m i 0 l) ∙ a i 0 (omega arith) (rw (length-take-le n m h) l)))
+every_within m n false h a =
+    let l : a.0 < n = rw (length-take-le n m h) at a.1 in
+    sym (every_fails (is_one m) n a.0 l (ne_eqb _ _ λ e. a.2 0 (get_or-take n m a.0 0 l ∙ e)))

@@ -5,11 +5,11 @@ ghost use Rattle.model.specs.Record.{ascends, max_names};
 ghost use Rattle.model.specs.Layout.{record_length, counts_length, pair_length, entry_at};
 ghost use Rattle.record.specs.Test.{entries_at, pairs_at, Under, body_end, cut, is_less, pair_less, pair_ok, pairs_ok, is_used, every, marks, mark_own, is_one};
 
+use crate::layout::{body_length, body_start, pair_from, pair_to};
 use crate::offsets::{
     COUNTS_LENGTH, ENTRY_LENGTH, MAX_NAME_BYTES, MAX_NAMES, PAIR_LENGTH, RECORD_LENGTH,
 };
-use std::cmp::Ordering;
-use text::read16;
+use text::{filled, read16};
 
 // Where the bodies of n names end, counted from the first, if the entries leave no gap and no name is long; else a record's length.
 pub(crate) fn body_end(b: &[u8], n: usize) -> usize
@@ -17,20 +17,15 @@ pub(crate) fn body_end(b: &[u8], n: usize) -> usize
     ensures { result ≡ body_end 0 (entries_at n (drop counts_length b.now)) }
 {
     let mut at = 0;
-    let mut p = COUNTS_LENGTH;
-    let mut left = n;
-    while 0 < left {
-        let start = read16(b, p);
-        let size = read16(b, p + 2);
-        if start != at {
+    for i in 0..n {
+        let size = body_length(b, i);
+        if body_start(b, i) != at {
             return RECORD_LENGTH;
         }
         if MAX_NAME_BYTES < size {
             return RECORD_LENGTH;
         }
         at += size;
-        p += ENTRY_LENGTH;
-        left -= 1;
     }
     at
 }
@@ -39,13 +34,7 @@ pub(crate) fn body_end(b: &[u8], n: usize) -> usize
 fn pair_less(a: usize, b: usize, c: usize, d: usize) -> bool
     ensures { result ≡ pair_less a b c d }
 {
-    if a < c {
-        return true;
-    }
-    if a == c {
-        return b < d;
-    }
-    false
+    (a, b) < (c, d)
 }
 
 // Whether the first of the `left` pairs from `at` on is of places below n, and comes before the next.
@@ -77,14 +66,10 @@ pub(crate) fn pairs_ok(b: &[u8], at: usize, count: usize, n: usize) -> bool
     requires { at + pair_length * count ≤ length b.now }
     ensures { result ≡ pairs_ok n (pairs_at count (drop at b.now)) }
 {
-    let mut p = at;
-    let mut left = count;
-    while 0 < left {
-        if !pair_ok(b, p, left, n) {
+    for i in 0..count {
+        if !pair_ok(b, at + PAIR_LENGTH * i, count - i, n) {
             return false;
         }
-        p += PAIR_LENGTH;
-        left -= 1;
     }
     true
 }
@@ -93,11 +78,7 @@ pub(crate) fn pairs_ok(b: &[u8], at: usize, count: usize, n: usize) -> bool
 fn is_less(a: &[u8], b: &[u8]) -> bool
     ensures { result ≡ is_less (compare_bytes a.now b.now) }
 {
-    match text::compare(a, b) {
-        Ordering::Less => true,
-        Ordering::Equal => false,
-        Ordering::Greater => false,
-    }
+    text::compare(a, b).is_lt()
 }
 
 // Whether the n names whose bodies start at `bodies` ascend.
@@ -105,18 +86,14 @@ pub(crate) fn names_ascend(b: &[u8], n: usize, bodies: usize) -> bool
     requires { (n ≤ max_names) × (entry_at n ≤ length b.now) × (bodies ≤ record_length) }
     ensures { result ≡ ascends compare_bytes (cut (entries_at n (drop counts_length b.now)) (drop bodies b.now)) }
 {
-    let mut p = COUNTS_LENGTH;
-    let mut q = bodies;
-    let mut left = n;
-    while 1 < left {
-        let size = read16(b, p + 2);
-        let next = read16(b, p + ENTRY_LENGTH + 2);
-        if !is_less(text::part(b, q, size), text::part(b, q + size, next)) {
+    let mut at = bodies;
+    for i in 1..n {
+        let size = body_length(b, i - 1);
+        let next = body_length(b, i);
+        if !is_less(text::part(b, at, size), text::part(b, at + size, next)) {
             return false;
         }
-        q += size;
-        p += ENTRY_LENGTH;
-        left -= 1;
+        at += size;
     }
     true
 }
@@ -126,15 +103,10 @@ fn mark_pairs(used: &mut [u8], b: &[u8], at: usize, count: usize)
     requires { (at + pair_length * count ≤ length b.now) × Under (length used.old) (pairs_at count (drop at b.now)) }
     ensures { used.new ≡ marks (pairs_at count (drop at b.now)) used.old }
 {
-    let mut p = at;
-    let mut left = count;
-    while 0 < left {
-        let x = read16(b, p);
-        let y = read16(b, p + 2);
-        used[x] = 1;
-        used[y] = 1;
-        p += PAIR_LENGTH;
-        left -= 1;
+    for i in 0..count {
+        let pair = at + PAIR_LENGTH * i;
+        used[pair_from(b, pair)] = 1;
+        used[pair_to(b, pair)] = 1;
     }
 }
 
@@ -143,20 +115,7 @@ fn all_marked(used: &[u8], n: usize) -> bool
     requires { n ≤ length used.now }
     ensures { result ≡ every (is_one used.now) n }
 {
-    let mut all = true;
-    let mut i = 0;
-    while i < n {
-        all = all & (used[i] == 1);
-        i += 1;
-    }
-    all
-}
-
-// No place marked, of the most there can be.
-fn no_marks() -> [u8; MAX_NAMES]
-    ensures { result ≡ replicate max_names 0 }
-{
-    [0; MAX_NAMES]
+    used[..n].iter().all(|&mark| mark == 1)
 }
 
 // Marks the own place, if there is one.
@@ -184,10 +143,9 @@ pub(crate) fn all_used(
     requires under { Under n (pairs_at s (drop subgraph b.now)) × Under n (pairs_at t (drop translation b.now)) }
     ensures { result ≡ every (is_used own (pairs_at s (drop subgraph b.now)) (pairs_at t (drop translation b.now))) n }
 {
-    let mut space = no_marks();
-    let used: &mut [u8] = &mut space;
-    mark_own(used, own);
-    mark_pairs(used, b, subgraph, s);
-    mark_pairs(used, b, translation, t);
-    all_marked(used, n)
+    let mut used: [u8; MAX_NAMES] = filled(0);
+    mark_own(&mut used, own);
+    mark_pairs(&mut used, b, subgraph, s);
+    mark_pairs(&mut used, b, translation, t);
+    all_marked(&used, n)
 }

@@ -1,9 +1,12 @@
-use Rattle.std.proofs.Common.{sym, arith}
-use Rattle.record.proofs.Steps.{every_none, every_more}
+-- All of the first n bytes are 1, or one of them is not.
+use Rattle.std.proofs.Common.{rules, arith, ◌≡◌, ◌≢◌, ℕ, take}
+use borrow.Author.Tests.{tests}
+use Rattle.std.proofs.lemmas.Iterator.{cases_from_all, YieldsList-from_slice}
+use Rattle.record.proofs.Marks.{every_within}
 use Rattle.record.proofs.test.all_marked.Goals as goal
 
-pub loop-i-init : goal.loop-i-init
-loop-i-init c = record { within = omega arith; marked = sym (every_none _) }
-
-pub loop-i-preserved : goal.loop-i-preserved
-loop-i-preserved c = record { within = omega arith; marked = grind (arith, every_more) }
+pub returns : goal.returns
+returns c =
+    every_within c.args.used.now c.args.n c.all.result c.requires
+    (cases_from_all _ _ _ (λ (x : ℕ). x ≡ 1) (λ (x : ℕ). x ≢ 1) c.all.ensures.ran (YieldsList-from_slice (take c.args.n c.args.used.now) cc)
+      (λ x q k. search (rules, tests)) (λ x q k. search (rules, tests)))

@@ -16,5 +16,5 @@ pub returns : goal.returns
 returns c =
     let a = c.args in
     c.all_marked.ensures
-    ∙ rw (c.mark_pairs-2.ensures, c.mark_pairs.ensures, c.mark_own.ensures, c.no_marks-space.ensures)
+    ∙ rw (c.mark_pairs-2.ensures, c.mark_pairs.ensures, c.mark_own.ensures, c.filled-used.ensures)
     (marks_used a.own (pairs_at a.s (drop a.subgraph a.b.now)) (pairs_at a.t (drop a.translation a.b.now)) a.n max_names c.requires.n_le_max_names.0 c.requires.n_le_max_names.1 c.requires.under.0 c.requires.under.1)

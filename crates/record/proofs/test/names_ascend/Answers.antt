@@ -5,8 +5,8 @@ use Rattle.record.proofs.test.names_ascend.Goals as goal
 pub returns-then-not-is_less : goal.returns-then-not-is_less
 returns-then-not-is_less c = grind (arith, ascends_more)
 
-pub loop-left-preserved : goal.loop-left-preserved
-loop-left-preserved c = record { place = omega arith; few = omega arith; bounded = omega arith; rest = grind (arith, ascends_more) }
+pub loop-i-preserved : goal.loop-i-preserved
+loop-i-preserved c = record { from = omega arith; bounded = omega arith; rest = grind (arith, ascends_more) }
 
 pub returns : goal.returns
 returns c = grind (arith, ascends_few)
