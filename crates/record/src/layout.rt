@@ -1,13 +1,12 @@
 // What a record counts, and where things stand in it: the bodies, a name, the pairs of a kind. Each function asks that what it reads lies
-// within the slice; the counts come from the record's reader.
+// within the slice.
 ghost use Rattle.std.specs.Prelude.{◌≡◌, ◌+◌, ◌*◌, ◌≤◌, ◌<◌, length};
 ghost use Rattle.model.specs.declared.Kind.TheVariants.{Subgraph, Translation};
 ghost use Rattle.model.specs.Layout.{counts_length, entry_length, pair_length, entry_at, name_count, own_number, pair_count, body_start, body_length, table_at, bodies_at, from_place, to_place, name_at, shown};
 ghost use Rattle.std.specs.Option.{option_copied};
-ghost use Rattle.record.specs.Reader.{place_numbered, IsCount, IsPart};
+ghost use Rattle.record.specs.Reader.{place_numbered, IsHead, IsPart};
 
 use crate::offsets::{PAIR_LENGTH, bodies_after, entry_at};
-use crate::reader::{head_at, part_at};
 use model::{Kind, Part};
 use text::read16;
 
@@ -37,15 +36,28 @@ pub fn body_length(b: &[u8], i: usize) -> usize
     read16(b, entry_at(i) + 2)
 }
 
-// Where the body of the name at place i stands, in a buffer with these numbers of names and pairs.
-pub fn part_of(b: &[u8], names: usize, subgraph: usize, translation: usize, i: usize) -> Part
-    requires { IsCount (name_count b.now) names × IsCount (pair_count Subgraph b.now) subgraph × IsCount (pair_count Translation b.now) translation × (entry_at i + entry_length ≤ length b.now) }
+// The counts that a buffer begins with.
+pub fn head_at(b: &[u8]) -> Head
+    requires { counts_length ≤ length b.now }
+    ensures { IsHead b.now result }
+{
+    Head {
+        names: read16(b, 0),
+        own: read16(b, 2),
+        subgraph: read16(b, 4),
+        translation: read16(b, 6),
+    }
+}
+
+// Where the body of the name at place i stands.
+pub fn part_at(b: &[u8], i: usize) -> Part
+    requires { entry_at i + entry_length ≤ length b.now }
     ensures { IsPart b.now i result }
 {
-    let bodies = bodies_after(names, subgraph + translation);
-    let start = bodies + body_start(b, i);
-    let size = body_length(b, i);
-    Part { start, size }
+    Part {
+        start: bodies_at(b) + body_start(b, i),
+        size: body_length(b, i),
+    }
 }
 
 // Where the bodies of the names begin.
@@ -53,8 +65,8 @@ pub fn bodies_at(b: &[u8]) -> usize
     requires { counts_length ≤ length b.now }
     ensures { (result ≡ bodies_at b.now) × (result < 4294967296) }
 {
-    let h = head_at(b);
-    bodies_after(h.names, h.subgraph + h.translation)
+    let pairs = pair_count(b, Kind::Subgraph) + pair_count(b, Kind::Translation);
+    bodies_after(name_count(b), pairs)
 }
 
 // How many names there are.
@@ -62,7 +74,7 @@ pub fn name_count(b: &[u8]) -> usize
     requires { counts_length ≤ length b.now }
     ensures { (result ≡ name_count b.now) × (result < 65536) }
 {
-    head_at(b).names
+    read16(b, 0)
 }
 
 // The own name's place, counted from 0, if there is one.
@@ -70,7 +82,7 @@ pub fn own_place(b: &[u8]) -> Option<usize>
     requires { counts_length ≤ length b.now }
     ensures { result ≡ place_numbered (own_number b.now) }
 {
-    match head_at(b).own {
+    match read16(b, 2) {
         0 => None,
         own => Some(own - 1),
     }
@@ -81,9 +93,7 @@ pub fn name_in(b: &[u8], bodies: usize, i: usize) -> &[u8]
     requires { (bodies ≡ bodies_at b.now) × (bodies < 4294967296) × (entry_at i + entry_length ≤ length b.now) }
     ensures { result.now ≡ name_at b.now i }
 {
-    let start = bodies + body_start(b, i);
-    let size = body_length(b, i);
-    text::part(b, start, size)
+    text::part(b, bodies + body_start(b, i), body_length(b, i))
 }
 
 // The name at place i.
@@ -91,10 +101,8 @@ pub fn name_at(b: &[u8], i: usize) -> &[u8]
     requires { entry_at i + entry_length ≤ length b.now }
     ensures { result.now ≡ name_at b.now i }
 {
-    let p = part_at(b, i);
-    let start = p.start;
-    let size = p.size;
-    text::part(b, start, size)
+    let part = part_at(b, i);
+    text::part(b, part.start, part.size)
 }
 
 // The own name, if there is one.
@@ -112,10 +120,9 @@ pub fn pair_count(b: &[u8], kind: Kind) -> usize
     requires { counts_length ≤ length b.now }
     ensures { (result ≡ pair_count kind b.now) × (result < 65536) }
 {
-    let h = head_at(b);
     match kind {
-        Kind::Subgraph => h.subgraph,
-        Kind::Translation => h.translation,
+        Kind::Subgraph => read16(b, 4),
+        Kind::Translation => read16(b, 6),
     }
 }
 
@@ -124,10 +131,10 @@ pub fn table_at(b: &[u8], kind: Kind) -> usize
     requires { counts_length ≤ length b.now }
     ensures { (result ≡ table_at kind b.now) × (result < 4294967296) }
 {
-    let h = head_at(b);
+    let first = entry_at(name_count(b));
     match kind {
-        Kind::Subgraph => entry_at(h.names),
-        Kind::Translation => entry_at(h.names) + PAIR_LENGTH * h.subgraph,
+        Kind::Subgraph => first,
+        Kind::Translation => first + PAIR_LENGTH * pair_count(b, Kind::Subgraph),
     }
 }
 

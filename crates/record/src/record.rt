@@ -6,7 +6,7 @@ ghost use Rattle.model.specs.Opening.{opened, record_in, two_records};
 ghost use Rattle.model.specs.Questions.{mapped, part_of, pair_parts, pairs_of};
 
 use crate::layout;
-use crate::reader::part_at;
+use crate::layout::part_at;
 use crate::validity::{check, check_both};
 use model::{Fault, Kind, PairParts, Part};
 use std::marker::Model;

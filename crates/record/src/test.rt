@@ -2,13 +2,11 @@
 ghost use Rattle.std.specs.Prelude.{◌≡◌, true, ◌+◌, ◌*◌, ◌≤◌, ◌<◌, length, drop, replicate};
 ghost use Rattle.model.specs.Bytes.{compare_bytes};
 ghost use Rattle.model.specs.Record.{ascends, max_names};
-ghost use Rattle.model.specs.Layout.{record_length, counts_length, pair_length, entry_at};
+ghost use Rattle.model.specs.Layout.{record_length, counts_length, pair_length, entry_at, bodies_after};
 ghost use Rattle.record.specs.Test.{entries_at, pairs_at, Under, body_end, cut, is_less, pair_less, pair_ok, pairs_ok, is_used, every, marks, mark_own, is_one};
 
-use crate::layout::{body_length, body_start, pair_from, pair_to};
-use crate::offsets::{
-    COUNTS_LENGTH, ENTRY_LENGTH, MAX_NAME_BYTES, MAX_NAMES, PAIR_LENGTH, RECORD_LENGTH,
-};
+use crate::layout::{Head, body_length, body_start, pair_from, pair_to};
+use crate::offsets::{MAX_NAME_BYTES, MAX_NAMES, PAIR_LENGTH, RECORD_LENGTH, entry_at};
 use text::{filled, read16};
 
 // Where the bodies of n names end, counted from the first, if the entries leave no gap and no name is long; else a record's length.
@@ -128,24 +126,17 @@ fn mark_own(used: &mut [u8], own: usize)
     }
 }
 
-// Whether every place below n is used: it is the own place, whose number is one more, or stands in one of the pairs, those of s from
-// `subgraph` on or those of t from `translation` on.
-pub(crate) fn all_used(
-    b: &[u8],
-    n: usize,
-    own: usize,
-    subgraph: usize,
-    s: usize,
-    translation: usize,
-    t: usize,
-) -> bool
-    requires n_le_max_names { (n ≤ max_names) × (own ≤ n) × (subgraph + pair_length * s ≤ length b.now) × (translation + pair_length * t ≤ length b.now) }
-    requires under { Under n (pairs_at s (drop subgraph b.now)) × Under n (pairs_at t (drop translation b.now)) }
-    ensures { result ≡ every (is_used own (pairs_at s (drop subgraph b.now)) (pairs_at t (drop translation b.now))) n }
+// Whether every place of a name is used: it is the own place, whose number is one more, or stands in one of the pairs.
+pub(crate) fn all_used(b: &[u8], head: Head) -> bool
+    requires sizes { (head.names ≤ max_names) × (head.own ≤ head.names) × (bodies_after head.names (head.subgraph + head.translation) ≤ length b.now) }
+    requires under { Under head.names (pairs_at head.subgraph (drop (entry_at head.names) b.now)) × Under head.names (pairs_at head.translation (drop (entry_at head.names + pair_length * head.subgraph) b.now)) }
+    ensures { result ≡ every (is_used head.own (pairs_at head.subgraph (drop (entry_at head.names) b.now)) (pairs_at head.translation (drop (entry_at head.names + pair_length * head.subgraph) b.now))) head.names }
 {
+    let subgraph = entry_at(head.names);
+    let translation = subgraph + PAIR_LENGTH * head.subgraph;
     let mut used: [u8; MAX_NAMES] = filled(0);
-    mark_own(&mut used, own);
-    mark_pairs(&mut used, b, subgraph, s);
-    mark_pairs(&mut used, b, translation, t);
-    all_marked(&used, n)
+    mark_own(&mut used, head.own);
+    mark_pairs(&mut used, b, subgraph, head.subgraph);
+    mark_pairs(&mut used, b, translation, head.translation);
+    all_marked(&used, head.names)
 }

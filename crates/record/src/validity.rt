@@ -1,51 +1,46 @@
 // Whether a buffer is a record, from the tests of its parts; and what is wrong with it.
-ghost use Rattle.std.specs.Prelude.{◌≡◌, ◌+◌, ◌≤◌, length};
+ghost use Rattle.std.specs.Prelude.{◌≡◌, true, ◌+◌, ◌≤◌, length};
 ghost use Rattle.model.specs.Record.{max_names, max_pairs};
 ghost use Rattle.model.specs.Layout.{bodies_after, decode};
 ghost use Rattle.model.specs.Opening.{is_some, check_of, check_of_both};
 ghost use Rattle.record.specs.Test.{counts_ok, tables_ok};
 
+use crate::layout::{Head, head_at};
 use crate::offsets::{
-    COUNTS_LENGTH, ENTRY_LENGTH, MAX_BODIES_BYTES, MAX_NAMES, MAX_PAIRS, PAIR_LENGTH, RECORD_LENGTH,
+    MAX_BODIES_BYTES, MAX_NAMES, MAX_PAIRS, PAIR_LENGTH, RECORD_LENGTH, bodies_after, entry_at,
 };
-use crate::reader::head_at;
 use crate::test::{all_used, body_end, names_ascend, pairs_ok};
 use model::Fault;
 
 // Whether the pairs of both kinds are right, the names ascend and all are used, in a buffer whose counts are within the sizes.
-fn tables_ok(b: &[u8], n: usize, own: usize, s: usize, t: usize) -> bool
-    requires { (n ≤ max_names) × (own ≤ n) × (s ≤ max_pairs) × (t ≤ max_pairs) × (bodies_after n (s + t) ≤ length b.now) }
-    ensures { result ≡ tables_ok b.now n own s t }
+fn tables_ok(b: &[u8], head: Head) -> bool
+    requires { (counts_ok head.names head.own head.subgraph head.translation ≡ true) × (bodies_after head.names (head.subgraph + head.translation) ≤ length b.now) }
+    ensures { result ≡ tables_ok b.now head.names head.own head.subgraph head.translation }
 {
-    let subgraph = COUNTS_LENGTH + ENTRY_LENGTH * n;
-    let translation = subgraph + PAIR_LENGTH * s;
-    let bodies = subgraph + PAIR_LENGTH * (s + t);
-    if !pairs_ok(b, subgraph, s, n) {
+    let names = head.names;
+    let subgraph = entry_at(names);
+    let translation = subgraph + PAIR_LENGTH * head.subgraph;
+    let bodies = translation + PAIR_LENGTH * head.translation;
+    if !pairs_ok(b, subgraph, head.subgraph, names) {
         return false;
     }
-    if !pairs_ok(b, translation, t, n) {
+    if !pairs_ok(b, translation, head.translation, names) {
         return false;
     }
-    if !names_ascend(b, n, bodies) {
+    if !names_ascend(b, names, bodies) {
         return false;
     }
-    all_used(b, n, own, subgraph, s, translation, t)
+    all_used(b, head)
 }
 
 // Whether the four counts are within the sizes, and the own place within the names.
-fn counts_ok(n: usize, own: usize, s: usize, t: usize) -> bool
-    ensures { result ≡ counts_ok n own s t }
+fn counts_ok(head: Head) -> bool
+    ensures { result ≡ counts_ok head.names head.own head.subgraph head.translation }
 {
-    if MAX_NAMES < n {
-        return false;
-    }
-    if n < own {
-        return false;
-    }
-    if MAX_PAIRS < s {
-        return false;
-    }
-    t <= MAX_PAIRS
+    head.names <= MAX_NAMES
+        && head.own <= head.names
+        && head.subgraph <= MAX_PAIRS
+        && head.translation <= MAX_PAIRS
 }
 
 // Whether a buffer is a record.
@@ -55,22 +50,18 @@ pub fn is_record(b: &[u8]) -> bool
     if b.len() != RECORD_LENGTH {
         return false;
     }
-    let h = head_at(b);
-    let n = h.names;
-    let own = h.own;
-    let s = h.subgraph;
-    let t = h.translation;
-    if !counts_ok(n, own, s, t) {
+    let head = head_at(b);
+    if !counts_ok(head) {
         return false;
     }
-    let end = body_end(b, n);
+    let end = body_end(b, head.names);
     if MAX_BODIES_BYTES < end {
         return false;
     }
-    if !tables_ok(b, n, own, s, t) {
+    if !tables_ok(b, head) {
         return false;
     }
-    let bodies = COUNTS_LENGTH + ENTRY_LENGTH * n + PAIR_LENGTH * (s + t);
+    let bodies = bodies_after(head.names, head.subgraph + head.translation);
     text::zeros_from(b, bodies + end)
 }
 

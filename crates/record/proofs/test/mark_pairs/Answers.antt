@@ -1,4 +1,4 @@
-use Rattle.std.proofs.Common.{length, length-set, arith}
+use Rattle.std.proofs.Common.{length-set, arith}
 use Rattle.record.proofs.Steps.{marks_end, marks_more, under_more}
 use Rattle.record.proofs.test.mark_pairs.Goals as goal
 

@@ -12,24 +12,24 @@ returns-then-b-ne-RECORD_LENGTH c =
 pub returns-then-not-counts_ok : goal.returns-then-not-counts_ok
 returns-then-not-counts_ok c =
     let b = c.args.b.now in
-    sym (refuse_counts b c.head_at-h.result c.head_at-h.ensures (sym c.counts_ok.ensures ∙ c.if-not-counts_ok.true))
+    sym (refuse_counts b c.head_at-head.result c.head_at-head.ensures (sym c.counts_ok.ensures ∙ c.if-not-counts_ok.true))
     ∙ is_record_lem b (λ i. omega (arith, c.type_inv.b i))
 
 pub returns-then-end-gt-MAX_BODIES_BYTES : goal.returns-then-end-gt-MAX_BODIES_BYTES
 returns-then-end-gt-MAX_BODIES_BYTES c =
     let b = c.args.b.now in
-    sym (refuse_bodies b c.head_at-h.result c.head_at-h.ensures (rw (← c.body_end-end.ensures) c.if-end-gt-MAX_BODIES_BYTES.true))
+    sym (refuse_bodies b c.head_at-head.result c.head_at-head.ensures (rw (← c.body_end-end.ensures) c.if-end-gt-MAX_BODIES_BYTES.true))
     ∙ is_record_lem b (λ i. omega (arith, c.type_inv.b i))
 
 pub returns-then-not-tables_ok : goal.returns-then-not-tables_ok
 returns-then-not-tables_ok c =
     let b = c.args.b.now in
-    sym (refuse_tables b c.head_at-h.result c.head_at-h.ensures (sym c.tables_ok.ensures ∙ c.if-not-tables_ok.true))
+    sym (refuse_tables b c.head_at-head.result c.head_at-head.ensures (sym c.tables_ok.ensures ∙ c.if-not-tables_ok.true))
     ∙ is_record_lem b (λ i. omega (arith, c.type_inv.b i))
 
 pub returns : goal.returns
 returns c =
     let b = c.args.b.now in
     c.zeros_from.ensures
-    ∙ rw c.body_end-end.ensures (zeros_decide b c.head_at-h.result c.head_at-h.ensures c.if-b-ne-RECORD_LENGTH.false (sym c.counts_ok.ensures ∙ c.if-not-counts_ok.false) (rw (← c.body_end-end.ensures) c.if-end-gt-MAX_BODIES_BYTES.false) (sym c.tables_ok.ensures ∙ c.if-not-tables_ok.false))
+    ∙ rw (c.bodies_after-bodies.ensures, c.body_end-end.ensures) (zeros_decide b c.head_at-head.result c.head_at-head.ensures c.if-b-ne-RECORD_LENGTH.false (sym c.counts_ok.ensures ∙ c.if-not-counts_ok.false) (rw (← c.body_end-end.ensures) c.if-end-gt-MAX_BODIES_BYTES.false) (sym c.tables_ok.ensures ∙ c.if-not-tables_ok.false))
     ∙ is_record_lem b (λ i. omega (arith, c.type_inv.b i))

@@ -19,9 +19,11 @@ returns-then-not-names_ascend c = grind arith
 
 pub all_used-requires-clause-under : goal.all_used-requires-clause-under
 all_used-requires-clause-under c =
-    let a = c.args in (
-      pairs_under a.n a.b.now a.s (entry_at a.n) (sym c.pairs_ok.ensures ∙ c.if-not-pairs_ok.false),
-      pairs_under a.n a.b.now a.t (entry_at a.n + pair_length * a.s) (sym c.pairs_ok-2.ensures ∙ c.if-not-pairs_ok-2.false),
+    let h = c.args.head in
+    let b = c.args.b.now in
+    let s = c.entry_at-subgraph.ensures in (
+      pairs_under h.names b h.subgraph (entry_at h.names) (rw s at (sym c.pairs_ok.ensures ∙ c.if-not-pairs_ok.false)),
+      pairs_under h.names b h.translation (entry_at h.names + pair_length * h.subgraph) (rw s at (sym c.pairs_ok-2.ensures ∙ c.if-not-pairs_ok-2.false)),
     )
 
 pub returns : goal.returns
