@@ -21,5 +21,4 @@ pub mod Rows
 pub mod StepTables
 pub mod Reading
 pub mod Spanning
-pub mod Filling
 pub mod Parts

@@ -1,14 +1,20 @@
 -- Two ascending tables as one, one number at a time.
 use mathlib.Core.Path.{◌≡◌, refl, sym, ap, ◌∙◌}
 use mathlib.Core.Logic.{◌⊎◌, inl, inr, ⊎_elim}
-use mathlib.Core.List.{List}
+use mathlib.Core.List.{List, ◌++◌}
 use Prim.Native.Nat.{ℕ, ◌+◌, ◌-◌, ◌≤◌, ◌<◌}
 use native.Mathlib.Nat.{eq-or-lt_of_le}
 use native.Mathlib.Decide.{dec_lt}
 use native.Mathlib.Omega.{arith}
-use lib.ListN.{length, get_or, set}
-use lib.Seq.{get_or-set_same, get_or-set_other}
-use Rattle.search.specs.Table.{Rises, Holds, Written, rest_of, Merged}
+use lib.ListN.{length, get_or, set, take, drop, length-take, length-drop, get_or-append}
+use lib.Seq.{get_or-set_same, get_or-set_other, get_or-take, get_or-drop, length-take-le}
+use Rattle.std.proofs.lemmas.List.{get_or-append-add}
+use mir.Val.{bool_byte}
+use mathlib.Core.Bool.{Bool}
+use Rattle.std.specs.declared.cmp.Ordering.TheVariants.{Less, Equal, Greater}
+use Rattle.std.specs.Ordering.{nat_cmp, ord_min, is_le}
+use Rattle.std.specs.Cmp.{nat_cmp_is}
+use Rattle.search.specs.Table.{Rises, Holds, Merged}
 use Rattle.search.proofs.Tree.{below}
 
 -- i of the numbers of a and j of b are passed, and make n numbers
@@ -119,20 +125,66 @@ module _ (a b out : List ℕ) (i j n : ℕ) (m : Merging a b out i j n) (rises_a
   pub take_both : get_or a i 0 ≡ get_or b j 0 → Merging a b (set out n (get_or a i 0)) (i + 1) (j + 1) (n + 1)
   take_both e = next_of_first (j + 1) (omega arith) (rw e (passes b rises_b j more_b))
 
+-- the lesser of the numbers at hand goes next, and either table passes it where it has it
+module _ (a b out : List ℕ) (i j n : ℕ) (m : Merging a b out i j n) (rises_a : Rises a (length a)) (rises_b : Rises b (length b)) (room : n < length out) (more_a : i < length a) (more_b : j < length b)
+    (x y v : ℕ) (x_is : x ≡ get_or a i 0) (y_is : y ≡ get_or b j 0) (v_is : v ≡ ord_min nat_cmp x y) (p q : Bool) (p_is : p ≡ is_le (nat_cmp x y)) (q_is : q ≡ is_le (nat_cmp y x)) where
+  pub take_next : Merging a b (set out n v) (i + bool_byte p) (j + bool_byte q) (n + 1)
+  take_next = go (dec_lt x y) (dec_lt y x)
+    where
+      i_stays : i + 0 ≡ i
+      i_stays = omega arith
+
+      j_stays : j + 0 ≡ j
+      j_stays = omega arith
+
+      go : Dec (x < y) → Dec (y < x) → Merging a b (set out n v) (i + bool_byte p) (j + bool_byte q) (n + 1)
+      go (yes l) d =
+          let f : nat_cmp x y ≡ Less = sym (nat_cmp_is x y Less l) in
+          let g : nat_cmp y x ≡ Greater = sym (nat_cmp_is y x Greater l) in
+          rw (v_is, p_is, q_is, f, g, j_stays, x_is) (take_first a b out i j n m rises_a rises_b room more_a more_b (rw (← x_is, ← y_is) l))
+      go (no c) (yes l) =
+          let f : nat_cmp x y ≡ Greater = sym (nat_cmp_is x y Greater l) in
+          let g : nat_cmp y x ≡ Less = sym (nat_cmp_is y x Less l) in
+          rw (v_is, p_is, q_is, f, g, i_stays, y_is)
+          (merging_turned b a (set out n (get_or b j 0)) (j + 1) i (n + 1)
+          (take_first b a out j i n (merging_turned a b out i j n m) rises_b rises_a room more_b more_a (rw (← x_is, ← y_is) l)))
+      go (no c) (no d) =
+          let e : x ≡ y = omega arith in
+          let f : nat_cmp x y ≡ Equal = sym (nat_cmp_is x y Equal e) in
+          let g : nat_cmp y x ≡ Equal = sym (nat_cmp_is y x Equal (sym e)) in
+          rw (v_is, p_is, q_is, f, g, x_is) (take_both a b out i j n m rises_a rises_b room more_a more_b (sym x_is ∙ e ∙ y_is))
+
 -- ------------------------------------------------------------------ the rest of one
 
 -- where one of the two is passed whole, the rest of the first goes behind what there is
 module _ (a b out after : List ℕ) (i j n : ℕ) (m : Merging a b out i j n) (rises_a : Rises a (length a)) (over : (i ≡ length a) ⊎ (j ≡ length b))
-    (w : Written out after n (length a - i) (rest_of a i)) where
-  -- a place behind is one of the rest
-  behind : (k : ℕ) → n ≤ k → k < n + (length a - i) → (i + (k - n) < length a) × (get_or after k 0 ≡ get_or a (i + (k - n)) 0)
-  behind k l h = let e : n + (k - n) ≡ k = omega arith in (omega (arith, m.i_in), rw e at (w.filled (k - n) (omega arith)))
+    (room : n ≤ length out) (end : ℕ) (end_is : end ≡ n + length (take (length a - i) (drop i a))) (w : take end after ≡ take n out ++ take (length a - i) (drop i a)) where
+  end_at : end ≡ n + (length a - i)
+  end_at = omega (arith, length-take (length a - i) (drop i a), length-drop i a)
 
-  pub merging_rest : Merging a b after (length a) j (n + (length a - i))
+  front_long : length (take n out) ≡ n
+  front_long = length-take-le n out room
+
+  -- what stood there before is kept, and a place behind is one of the rest
+  kept_at : (k : ℕ) → k < n → get_or after k 0 ≡ get_or out k 0
+  kept_at k l =
+      sym (get_or-take end after k 0 (omega (arith, end_is))) ∙ ap (λ (s : List ℕ). get_or s k 0) w
+      ∙ get_or-append (take n out) (take (length a - i) (drop i a)) 0 k (omega (arith, front_long)) ∙ get_or-take n out k 0 l
+
+  behind : (k : ℕ) → n ≤ k → k < end → (i + (k - n) < length a) × (get_or after k 0 ≡ get_or a (i + (k - n)) 0)
+  behind k l h =
+      let e : length (take n out) + (k - n) ≡ k = omega (arith, front_long) in (
+        omega (arith, m.i_in, end_at),
+        sym (get_or-take end after k 0 h) ∙ ap (λ (s : List ℕ). get_or s k 0) w
+            ∙ rw e at (get_or-append-add (take n out) (take (length a - i) (drop i a)) (k - n) 0)
+            ∙ get_or-take (length a - i) (drop i a) (k - n) 0 (omega (arith, end_at)) ∙ get_or-drop i a (k - n) 0,
+      )
+
+  pub merging_rest : Merging a b after (length a) j end
   merging_rest = record {
     i_in = omega arith;
     j_in = m.j_in;
-    count = omega (arith, m.count, m.i_in);
+    count = omega (arith, m.count, m.i_in, end_at);
     rises = λ k l o h. rising k l o h (dec_lt k n) (dec_lt l n);
     low_a = λ k l h o c. absurd (omega arith);
     low_b = λ k l h o c. low k l h o c (dec_lt k n);
@@ -141,29 +193,29 @@ module _ (a b out after : List ℕ) (i j n : ℕ) (m : Merging a b out i j n) (r
     second = λ x h. kept x (m.second x h);
   }
     where
-      rising : (k l : ℕ) → k < l → l < n + (length a - i) → Dec (k < n) → Dec (l < n) → get_or after k 0 < get_or after l 0
-      rising k l o h (yes c) (yes d) = rw (w.kept k c, w.kept l d) (m.rises k l o d)
-      rising k l o h (yes c) (no d) = let f = behind l (omega arith) h in rw (w.kept k c, f.1) (m.low_a k (i + (l - n)) c (omega arith) f.0)
+      rising : (k l : ℕ) → k < l → l < end → Dec (k < n) → Dec (l < n) → get_or after k 0 < get_or after l 0
+      rising k l o h (yes c) (yes d) = rw (kept_at k c, kept_at l d) (m.rises k l o d)
+      rising k l o h (yes c) (no d) = let f = behind l (omega arith) h in rw (kept_at k c, f.1) (m.low_a k (i + (l - n)) c (omega arith) f.0)
       rising k l o h (no c) d =
           let e = behind k (omega arith) (omega arith) in
           let f = behind l (omega arith) h in
           rw (e.1, f.1) (rises_a (i + (k - n)) (i + (l - n)) (omega arith) f.0)
 
-      low : (k l : ℕ) → k < n + (length a - i) → j ≤ l → l < length b → Dec (k < n) → get_or after k 0 < get_or b l 0
-      low k l h o c (yes d) = rw (w.kept k d) (m.low_b k l d o c)
-      low k l h o c (no d) = absurd (⊎_elim (λ (e : i ≡ length a). omega arith) (λ (e : j ≡ length b). omega arith) over)
+      low : (k l : ℕ) → k < end → j ≤ l → l < length b → Dec (k < n) → get_or after k 0 < get_or b l 0
+      low k l h o c (yes d) = rw (kept_at k d) (m.low_b k l d o c)
+      low k l h o c (no d) = absurd (⊎_elim (λ (e : i ≡ length a). omega (arith, end_at)) (λ (e : j ≡ length b). omega arith) over)
 
-      kept : (x : ℕ) → Holds out n x → Holds after (n + (length a - i)) x
-      kept x h = let l : h.0 < n = h.1 in (h.0, omega arith, w.kept h.0 l ∙ h.2)
+      kept : (x : ℕ) → Holds out n x → Holds after end x
+      kept x h = let l : h.0 < n = h.1 in (h.0, omega (arith, end_at), kept_at h.0 l ∙ h.2)
 
-      back : (x : ℕ) (h : Holds after (n + (length a - i)) x) → Dec (h.0 < n) → Holds a (length a) x ⊎ Holds b j x
-      back x h (yes c) = ⊎_elim (λ (f : Holds a i x). inl (f.0, omega (arith, f.1, m.i_in), f.2)) inr (m.either x (h.0, c, sym (w.kept h.0 c) ∙ h.2))
+      back : (x : ℕ) (h : Holds after end x) → Dec (h.0 < n) → Holds a (length a) x ⊎ Holds b j x
+      back x h (yes c) = ⊎_elim (λ (f : Holds a i x). inl (f.0, omega (arith, f.1, m.i_in), f.2)) inr (m.either x (h.0, c, sym (kept_at h.0 c) ∙ h.2))
       back x h (no c) = let f = behind h.0 (omega arith) h.1 in inl (i + (h.0 - n), f.0, sym f.1 ∙ h.2)
 
-      there : (x : ℕ) (h : Holds a (length a) x) → Dec (h.0 < i) → Holds after (n + (length a - i)) x
+      there : (x : ℕ) (h : Holds a (length a) x) → Dec (h.0 < i) → Holds after end x
       there x h (yes c) = kept x (m.first x (h.0, c, h.2))
       there x h (no c) =
-          let p = h.0 in
-          let l : p < length a = h.1 in
-          let e : i + (p - i) ≡ p = omega arith in
-          (n + (p - i), omega arith, w.filled (p - i) (omega arith) ∙ ap (λ (q : ℕ). get_or a q 0) e ∙ h.2)
+          let k_in : n + (h.0 - i) < end = omega (arith, end_at, h.1, m.i_in) in
+          let f = behind (n + (h.0 - i)) (omega arith) k_in in
+          let e : i + (n + (h.0 - i) - n) ≡ h.0 = omega arith in
+          (n + (h.0 - i), k_in, f.1 ∙ rw e h.2)

@@ -2,6 +2,7 @@
 use mathlib.Core.Path.{◌≡◌, sym, ◌∙◌}
 use mathlib.Core.Logic.{◌⊎◌, inl, inr, ⊎_elim, ◌↔◌}
 use mathlib.Core.List.{List}
+use Rattle.std.specs.Prelude.{Option}
 use Prim.Native.Nat.{ℕ, ◌+◌, ◌*◌, ◌/◌, ◌%◌, ◌≤◌, ◌<◌}
 use native.Mathlib.Omega.{arith}
 use lib.ListN.{length, take, get_or}
@@ -42,7 +43,7 @@ step_node steps n name R t e l =
     let i = t.stands.inside (get_or steps e 0 / max_moves) (get_or steps e 0 % max_moves) (omega arith, (e, l, omega arith)) in
     omega (arith, i.1)
 
-pub searchable : (steps starts : List ℕ) (from : ℕ) (q places : List ℕ) (name : ℕ → Bytes) (R : Relation) → StepTable steps (length places) name R
+pub searchable : (steps starts : List ℕ) (from : ℕ) (q : List ℕ) (places : List (Option ℕ)) (name : ℕ → Bytes) (R : Relation) → StepTable steps (length places) name R
     → length steps < 65536 → length starts ≡ length places + 1 → length q ≡ length places → from < length places → Unindexed steps starts from q places
 searchable steps starts from q places name R t few long same l = record {
   rises = t.rises;

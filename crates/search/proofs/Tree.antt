@@ -2,48 +2,47 @@
 use mathlib.Core.Path.{◌≡◌, refl, sym, ap, ◌∙◌}
 use mathlib.Core.Logic.{◌⊎◌, inl, inr, ⊎_elim}
 use mathlib.Core.List.{List, [], ◌∷◌}
-use Prim.Native.Nat.{ℕ, zero, suc, ◌+◌, ◌-◌, ◌*◌, ◌/◌, ◌%◌, ◌≤◌, ◌<◌, suc-le-suc}
+use Prim.Native.Nat.{ℕ, zero, suc, ◌+◌, ◌*◌, ◌/◌, ◌%◌, ◌≤◌, ◌<◌}
 use native.Mathlib.Nat.{eq-or-lt_of_le, not-suc-le-zero, le_of_suc-le-suc}
 use native.Mathlib.Decide.{ℕ_discrete, dec_lt}
-use native.Mathlib.Numerals.{add-one}
 use native.Mathlib.Omega.{arith}
-use lib.ListN.{length, get_or, set, length-set}
+use lib.ListN.{length, get_or, set, length-set, replicate}
+use Rattle.std.specs.Prelude.{Option, Some, None}
 use lib.Seq.{get_or-set_same, get_or-set_other}
+use Rattle.std.proofs.lemmas.Option.{none-some, same_Some}
 use Rattle.search.specs.Steps.{max_nodes, max_moves, Moves}
-use Rattle.search.specs.Queue.{node_at, prev_at, move_at, zeros, Places, FoundBy, Tree}
+use Rattle.search.specs.Queue.{node_at, prev_at, move_at, missing, Places, FoundBy, Tree}
 
 pub below : (j n : ℕ) → j < n + 1 → (j < n) ⊎ (j ≡ n)
 below j n l = ⊎_elim inr inl (eq-or-lt_of_le (omega arith))
 
 -- ------------------------------------------------------------------ nodes that are not found
 
-pub zeros_set : (l : List ℕ) (i k : ℕ) → i < length l → get_or l i 0 ≡ 0 → zeros (set l i (k + 1)) + 1 ≡ zeros l
-unfolding zeros
-zeros_set [] i k l e = absurd (not-suc-le-zero l)
-zeros_set (zero ∷ xs) zero k l e = rw (add-one k) (omega arith)
-zeros_set (suc x ∷ xs) zero k l e = absurd (omega arith)
-zeros_set (zero ∷ xs) (suc i) k l e = let h = zeros_set xs i k (le_of_suc-le-suc l) e in omega arith
-zeros_set (suc x ∷ xs) (suc i) k l e = zeros_set xs i k (le_of_suc-le-suc l) e
+pub missing_set : (l : List (Option ℕ)) (i k : ℕ) → i < length l → get_or l i None ≡ None → missing (set l i (Some k)) + 1 ≡ missing l
+unfolding missing
+missing_set [] i k l e = absurd (not-suc-le-zero l)
+missing_set (None ∷ xs) zero k l e = omega arith
+missing_set (Some j ∷ xs) zero k l e = absurd (none-some j (sym e))
+missing_set (None ∷ xs) (suc i) k l e = let h = missing_set xs i k (le_of_suc-le-suc l) e in omega arith
+missing_set (Some j ∷ xs) (suc i) k l e = missing_set xs i k (le_of_suc-le-suc l) e
 
-pub zeros_all : (l : List ℕ) → ((i : ℕ) → i < length l → get_or l i 0 ≡ 0) → zeros l ≡ length l
-unfolding zeros
-zeros_all [] h = refl
-zeros_all (zero ∷ xs) h = ap suc (zeros_all xs (λ i l. h (suc i) (suc-le-suc l)))
-zeros_all (suc x ∷ xs) h = absurd (let e : suc x ≡ 0 = h 0 (omega arith) in omega arith)
+pub missing_all : (n : ℕ) → missing (replicate n None) ≡ n
+unfolding missing
+missing_all zero = refl
+missing_all (suc n) = ap suc (missing_all n)
 
 -- ------------------------------------------------------------------ where they stand
 
 -- one node more, at the end
-pub places_push : (q places : List ℕ) (n y : ℕ) → Places q places n → n < length q → y % max_nodes < length places → get_or places (y % max_nodes) 0 ≡ 0
-    → Places (set q n y) (set places (y % max_nodes) (n + 1)) (n + 1)
+pub places_push : (q : List ℕ) (places : List (Option ℕ)) (n y : ℕ) → Places q places n → n < length q → y % max_nodes < length places
+    → get_or places (y % max_nodes) None ≡ None → Places (set q n y) (set places (y % max_nodes) (Some n)) (n + 1)
 places_push q places n y s room small z = record {
   seat = λ j l. ⊎_elim
       (λ (o : j < n). rw (old j o, other (node_at q j) (fresh j o)) (s.seat j o))
       (λ (e : j ≡ n). rw (e, new, placed))
       (below j n l);
-  inside = λ j l. rw (length-set places (y % max_nodes) (n + 1)) (⊎_elim (λ (o : j < n). rw (old j o) (s.inside j o)) (λ (e : j ≡ n). rw (e, new) small) (below j n l));
-  low = λ v l. at_low v (rw length-set at l) (ℕ_discrete v (y % max_nodes));
-  back = λ v l p. at_back v (rw length-set at l) p (ℕ_discrete v (y % max_nodes));
+  inside = λ j l. rw (length-set places (y % max_nodes) (Some n)) (⊎_elim (λ (o : j < n). rw (old j o) (s.inside j o)) (λ (e : j ≡ n). rw (e, new) small) (below j n l));
+  back = λ v j l e. at_back v j (rw length-set at l) e (ℕ_discrete v (y % max_nodes));
 }
   where
     old : (j : ℕ) → j < n → get_or (set q n y) j 0 ≡ get_or q j 0
@@ -52,31 +51,27 @@ places_push q places n y s room small z = record {
     new : get_or (set q n y) n 0 ≡ y
     new = get_or-set_same q n y 0 room
 
-    placed : get_or (set places (y % max_nodes) (n + 1)) (y % max_nodes) 0 ≡ n + 1
-    placed = get_or-set_same places (y % max_nodes) (n + 1) 0 small
+    placed : get_or (set places (y % max_nodes) (Some n)) (y % max_nodes) None ≡ Some n
+    placed = get_or-set_same places (y % max_nodes) (Some n) None small
 
-    other : (v : ℕ) → (v ≡ y % max_nodes → ⊥) → get_or (set places (y % max_nodes) (n + 1)) v 0 ≡ get_or places v 0
-    other v d = get_or-set_other places (y % max_nodes) v (n + 1) 0 d
+    other : (v : ℕ) → (v ≡ y % max_nodes → ⊥) → get_or (set places (y % max_nodes) (Some n)) v None ≡ get_or places v None
+    other v d = get_or-set_other places (y % max_nodes) v (Some n) None d
 
     fresh : (j : ℕ) → j < n → node_at q j ≡ y % max_nodes → ⊥
-    fresh j l e = omega (arith, s.seat j l, z, ap (λ (v : ℕ). get_or places v 0) e)
+    fresh j l e = none-some j (sym z ∙ ap (λ (v : ℕ). get_or places v None) (sym e) ∙ s.seat j l)
 
-    at_low : (v : ℕ) → v < length places → Dec (v ≡ y % max_nodes) → get_or (set places (y % max_nodes) (n + 1)) v 0 ≤ n + 1
-    at_low v l (yes e) = rw (e, placed) (omega arith)
-    at_low v l (no d) = rw (other v d) (omega (arith, s.low v l))
+    at_back : (v j : ℕ) → v < length places → get_or (set places (y % max_nodes) (Some n)) v None ≡ Some j → Dec (v ≡ y % max_nodes)
+        → (j < n + 1) × (node_at (set q n y) j ≡ v)
+    at_back v j l e (yes d) =
+        let same : n ≡ j = same_Some n j (sym placed ∙ rw d at e) in
+        (omega arith, rw (← same, new) (sym d))
+    at_back v j l e (no d) =
+        let f = s.back v j l (rw (other v d) at e) in
+        let i : j < n = f.0 in
+        (omega arith, rw (old j i) f.1)
 
-    at_back : (v : ℕ) → v < length places → 0 < get_or (set places (y % max_nodes) (n + 1)) v 0 → Dec (v ≡ y % max_nodes)
-        → node_at (set q n y) (get_or (set places (y % max_nodes) (n + 1)) v 0 - 1) ≡ v
-    at_back v l p (yes e) =
-        let i : n + 1 - 1 ≡ n = omega arith in
-        rw (e, placed, i, new)
-    at_back v l p (no d) =
-        let o : 0 < get_or places v 0 = rw (other v d) at p in
-        let i : get_or places v 0 - 1 < n = omega (arith, s.low v l) in
-        rw (other v d, old (get_or places v 0 - 1) i) (s.back v l o)
-
-pub places_start : (q places : List ℕ) (a : ℕ) → 0 < length q → a < length places → length places ≤ max_nodes
-    → ((v : ℕ) → v < length places → get_or places v 0 ≡ 0) → Places (set q 0 a) (set places a 1) 1
+pub places_start : (q : List ℕ) (places : List (Option ℕ)) (a : ℕ) → 0 < length q → a < length places → length places ≤ max_nodes
+    → ((v : ℕ) → v < length places → get_or places v None ≡ None) → Places (set q 0 a) (set places a (Some 0)) 1
 places_start q places a room small few clear =
     let e : a % max_nodes ≡ a = omega arith in
     rw e at (places_push q places 0 a none room (rw e small) (rw e (clear a small)))
@@ -85,8 +80,7 @@ places_start q places a room small few clear =
     none = record {
       seat = λ j l. absurd (omega arith);
       inside = λ j l. absurd (omega arith);
-      low = λ v l. omega (arith, clear v l);
-      back = λ v l p. absurd (omega (arith, clear v l));
+      back = λ v j l e. absurd (none-some j (sym (clear v l) ∙ e));
     }
 
 -- ------------------------------------------------------------------ the steps that are done

@@ -1,6 +1,6 @@
 -- What a search promises: the nodes that it took are the first reachable ones in the order of their best paths (fewest steps, then the
 -- first move that differs), each with that path read back by its predecessors.
-use Rattle.std.specs.Prelude.{◌≡◌, ◌⊎◌, Bool, true, false, List, [], ◌∷◌, ◌++◌, ℕ, zero, suc, ◌+◌, ◌-◌, ◌%◌, ◌≤◌, ◌<◌, length, get_or}
+use Rattle.std.specs.Prelude.{◌≡◌, ◌⊎◌, List, [], ◌∷◌, ◌++◌, ℕ, zero, suc, ◌+◌, ◌%◌, ◌≤◌, ◌<◌, length, get_or, Option, Some, None}
 use Rattle.search.specs.declared.Searched.{Searched}
 use Rattle.search.specs.Steps.{max_nodes, Moves, IsPath, Earlier, Best, Made}
 use Rattle.search.specs.Table.{Rises}
@@ -21,13 +21,13 @@ pub record Back (q : List ℕ) (place : ℕ) : Type 0 where
   pub falls : (j : ℕ) → 0 < j → j ≤ place → prev_at q j < j
 
 -- tables to search from a node
-pub record Searchable (steps starts : List ℕ) (from : ℕ) (q places : List ℕ) : Type 0 where
+pub record Searchable (steps starts : List ℕ) (from : ℕ) (q : List ℕ) (places : List (Option ℕ)) : Type 0 where
   pub made : Made steps starts (length places)
   pub room : Room q places
   pub start : from < length places
 
 -- ascending steps between the nodes, with room to index and to search them
-pub record Unindexed (steps starts : List ℕ) (from : ℕ) (q places : List ℕ) : Type 0 where
+pub record Unindexed (steps starts : List ℕ) (from : ℕ) (q : List ℕ) (places : List (Option ℕ)) : Type 0 where
   pub rises : Rises steps (length steps)
   pub few : length steps < 65536
   pub nodes : (e : ℕ) → e < length steps → get_or steps e 0 % max_nodes < length places
@@ -40,21 +40,21 @@ abbrev pub Among : List ℕ → ℕ → ℕ → Type 0
 Among q n b = (j : ℕ) × (j < n) × (node_at q j ≡ b)
 
 -- the last one taken is the target, or nothing is left
-abbrev pub Ends : List ℕ → ℕ → ℕ → ℕ → Bool → Type 0
-Ends q target taken found true = node_at q (taken - 1) ≡ target
-Ends q target taken found false = taken ≡ found
+abbrev pub Ends : List ℕ → ℕ → ℕ → ℕ → Option ℕ → Type 0
+Ends q target taken found (Some place) = (place + 1 ≡ taken) × (node_at q place ≡ target)
+Ends q target taken found None = taken ≡ found
 
-pub record SearchedFrom (R : Moves) (size from target : ℕ) (q places : List ℕ) (r : Searched) : Type 0 where
+pub record SearchedFrom (R : Moves) (size from target : ℕ) (q : List ℕ) (places : List (Option ℕ)) (r : Searched) : Type 0 where
   -- each node that was taken has its best path
   pub best : (j : ℕ) → j < r.taken → Best R from (path_to q j) (node_at q j)
   -- in the order of these paths
   pub order : (i j : ℕ) → i < j → j < r.taken → Earlier (path_to q i) (path_to q j)
   -- nothing is missing: a node that has a path is taken, or the target was reached and the path is later than all that were taken
   pub all : (ms : List ℕ) (b : ℕ) → IsPath R from ms b
-      → Among q r.taken b ⊎ ((r.reached ≡ true) × ((j : ℕ) → j < r.taken → Earlier (path_to q j) ms))
-  pub ends : Ends q target r.taken r.found r.reached
+      → Among q r.taken b ⊎ ((place : ℕ) × (r.target ≡ Some place) × ((j : ℕ) → j < r.taken → Earlier (path_to q j) ms))
+  pub ends : Ends q target r.taken r.found r.target
   -- no earlier one is the target
-  pub passed : (j : ℕ) → j < r.taken → node_at q j ≡ target → (r.reached ≡ true) × (j + 1 ≡ r.taken)
+  pub passed : (j : ℕ) → j < r.taken → node_at q j ≡ target → r.target ≡ Some j
   pub start : (0 < r.taken) × (get_or q 0 0 ≡ from)
   pub count : (r.taken ≤ r.found) × (r.found ≤ size)
   -- the predecessors lead back to the first place

@@ -1,6 +1,6 @@
 -- The tables of a search under way. The queue has an entry for each found node, in the order of finding: the place of its
--- predecessor * 16,384 + the move from there. By node: its place plus 1, or 0 while it is not found.
-use Rattle.std.specs.Prelude.{◌≡◌, ◌⊎◌, List, [], ◌∷◌, ℕ, zero, suc, ◌+◌, ◌-◌, ◌*◌, ◌/◌, ◌%◌, ◌≤◌, ◌<◌, length, get_or}
+-- predecessor * 16,384 + the move from there. By node: its place, if it is found.
+use Rattle.std.specs.Prelude.{◌≡◌, ◌⊎◌, List, [], ◌∷◌, ℕ, suc, ◌+◌, ◌*◌, ◌/◌, ◌%◌, ◌≤◌, ◌<◌, length, get_or, Option, Some, None}
 use Rattle.search.specs.Steps.{max_nodes, max_moves, Moves}
 
 abbrev pub node_at : List ℕ → ℕ → ℕ
@@ -13,17 +13,16 @@ abbrev pub move_at : List ℕ → ℕ → ℕ
 move_at q j = get_or q j 0 % max_moves
 
 -- how many nodes are not found
-unfoldable pub zeros : List ℕ → ℕ
-zeros [] = 0
-zeros (zero ∷ xs) = suc (zeros xs)
-zeros (suc x ∷ xs) = zeros xs
+unfoldable pub missing : List (Option ℕ) → ℕ
+missing [] = 0
+missing (None ∷ xs) = suc (missing xs)
+missing (Some j ∷ xs) = missing xs
 
 -- which nodes are found, and where
-pub record Places (q places : List ℕ) (n : ℕ) : Type 0 where
-  pub seat : (j : ℕ) → j < n → get_or places (node_at q j) 0 ≡ j + 1
+pub record Places (q : List ℕ) (places : List (Option ℕ)) (n : ℕ) : Type 0 where
+  pub seat : (j : ℕ) → j < n → get_or places (node_at q j) None ≡ Some j
   pub inside : (j : ℕ) → j < n → node_at q j < length places
-  pub low : (v : ℕ) → v < length places → get_or places v 0 ≤ n
-  pub back : (v : ℕ) → v < length places → 0 < get_or places v 0 → node_at q (get_or places v 0 - 1) ≡ v
+  pub back : (v j : ℕ) → v < length places → get_or places v None ≡ Some j → (j < n) × (node_at q j ≡ v)
 
 -- the node that move m leads to from place p is found, by an entry that is no greater than p * 16,384 + m
 abbrev pub FoundBy : List ℕ → ℕ → ℕ → ℕ → Type 0
@@ -40,14 +39,14 @@ pub record Tree (R : Moves) (q : List ℕ) (n x : ℕ) : Type 0 where
   pub closed : (p m : ℕ) → p < n → p * max_moves + m < x → R (node_at q p) m → FoundBy q n p m
 
 -- there is room for every node
-pub record Room (q places : List ℕ) : Type 0 where
+pub record Room (q : List ℕ) (places : List (Option ℕ)) : Type 0 where
   pub queue : length q ≡ length places
   pub small : length places ≤ max_nodes
 
 -- n nodes are found, and the steps from the places before h are done
-pub record Searching (R : Moves) (q places : List ℕ) (n h : ℕ) : Type 0 where
+pub record Searching (R : Moves) (q : List ℕ) (places : List (Option ℕ)) (n h : ℕ) : Type 0 where
   pub room : Room q places
-  pub found : n + zeros places ≡ length places
+  pub found : n + missing places ≡ length places
   pub seats : Places q places n
   pub tree : Tree R q n (h * max_moves)
 

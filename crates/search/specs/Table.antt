@@ -1,4 +1,4 @@
--- Tables of numbers: written from a place on, two ascending ones as one, and where the steps of each node begin.
+-- Tables of numbers: two ascending ones as one, and where the steps of each node begin.
 use Rattle.std.specs.Prelude.{◌≡◌, ◌⊎◌, List, ℕ, ◌+◌, ◌*◌, ◌≤◌, ◌<◌, length, get_or}
 use Rattle.search.specs.Steps.{max_moves}
 
@@ -9,16 +9,6 @@ Rises s n = (i j : ℕ) → i < j → j < n → get_or s i 0 < get_or s j 0
 -- x stands among the first n
 abbrev pub Holds : List ℕ → ℕ → ℕ → Type 0
 Holds s n x = (i : ℕ) × (i < n) × (get_or s i 0 ≡ x)
-
--- from place `at` on n numbers are written, those of f; before it the table is as it was
-pub record Written (before after : List ℕ) (at n : ℕ) (f : ℕ → ℕ) : Type 0 where
-  pub long : length after ≡ length before
-  pub filled : (p : ℕ) → p < n → get_or after (at + p) 0 ≡ f p
-  pub kept : (q : ℕ) → q < at → get_or after q 0 ≡ get_or before q 0
-
--- the numbers of a table from place i on
-abbrev pub rest_of : List ℕ → ℕ → ℕ → ℕ
-rest_of s i p = get_or s (i + p) 0
 
 -- two ascending tables, with room for both
 pub record Mergeable (a b out : List ℕ) : Type 0 where

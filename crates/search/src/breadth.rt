@@ -1,101 +1,67 @@
-// The search and one turn of it. A queue entry is the place of the predecessor * 16,384 + the move from there.
-ghost use Rattle.std.specs.Prelude.{◌≡◌, ℕ, ◌+◌, ◌<◌, length, get_or};
+// The search, and one turn of it.
+ghost use Rattle.std.specs.Prelude.{◌≡◌, ◌+◌, ◌<◌, length};
 ghost use Rattle.search.specs.Steps.{Made, leads};
 ghost use Rattle.search.specs.Queue.{Searching, Kept};
-ghost use Rattle.search.specs.Promise.{Searchable, Unindexed, SearchedFrom};
+ghost use Rattle.search.specs.Promise.{Searchable, SearchedFrom};
 
-use crate::table::index;
-use crate::{MAX_MOVES, MAX_NODES, Searched};
+use crate::Searched;
+use crate::graph::Graph;
+use crate::step::Step;
 
-// No node is found: every number of a table is 0.
-fn clear(places: &mut [u16])
-    ensures { (v : ℕ) → v < length places.new → get_or places.new v 0 ≡ 0 }
-{
-    let mut v = 0;
-    while v < places.len() {
-        places[v] = 0;
-        v += 1;
-    }
+// The tables of a search: the queue, with a step to each node that is found, from the place of its predecessor, in the order of finding;
+// and by node its place in the queue.
+#[derive(Drop)]
+pub struct Search<'a> {
+    pub queue: &'a mut [Step],
+    pub places: &'a mut [Option<u16>],
 }
 
-// Goes on from the node at a place: every node that a step leads to from it is found then. Gives how many are found.
-fn expand(
-    steps: &[u32],
-    starts: &[u16],
-    place: usize,
-    queue: &mut [u32],
-    places: &mut [u16],
-    found: usize,
-) -> usize
-    requires { Made steps.now starts.now (length places.old) × Searching (leads steps.now) queue.old places.old found place × (place < found) }
-    ensures { Searching (leads steps.now) queue.new places.new result (place + 1) × Kept queue.old found queue.new result }
-{
-    let node = (queue[place] % MAX_NODES) as usize;
-    let end = starts[node + 1] as usize;
-    let mut e = starts[node] as usize;
-    let mut count = found;
-    while e < end {
-        let step = steps[e] % MAX_MOVES;
-        let next = (step % MAX_NODES) as usize;
-        if places[next] == 0 {
-            queue[count] = place as u32 * MAX_MOVES + step;
-            count += 1;
-            places[next] = count as u16;
-            e += 1;
-        } else {
-            e += 1;
+impl<'a> Search<'a> {
+    // Goes on from the node at a place: every node that a step leads to from it is found then. Gives how many are found.
+    fn expand<'g>(&mut self, graph: Graph<'g>, place: usize, found: usize) -> usize
+        requires { Made graph.steps.now graph.starts.now (length self.old.places.now) × Searching (leads graph.steps.now) self.old.queue.now self.old.places.now found place × (place < found) }
+        ensures found { Searching (leads graph.entry.steps.now) self.new.queue.now self.new.places.now result (place + 1) }
+        ensures kept { Kept self.old.queue.now found self.new.queue.now result }
+        ensures same_size { length self.new.places.now ≡ length self.old.places.now }
+    {
+        let node = self.queue[place].to();
+        let mut count = found;
+        for step in graph.leaving(node) {
+            let next = step.to();
+            if self.places[next].is_none() {
+                self.queue[count] = step.from_place(place);
+                self.places[next] = Some(count as u16);
+                count += 1;
+            }
+        }
+        count
+    }
+
+    // Searches from a node until the target is taken, or to the end; a target that is no node is never taken.
+    pub fn run<'g>(&mut self, graph: Graph<'g>, from: usize, target: usize) -> Searched
+        requires { Searchable graph.steps.now graph.starts.now from self.old.queue.now self.old.places.now }
+        ensures { SearchedFrom (leads graph.entry.steps.now) (length self.old.places.now) from target self.new.queue.now self.new.places.now result }
+    {
+        self.places.fill(None);
+        self.queue[0] = Step::start(from);
+        self.places[from] = Some(0);
+        let mut found = 1;
+        let mut taken = 0;
+        while taken < found {
+            if self.queue[taken].to() == target {
+                return Searched {
+                    taken: taken + 1,
+                    found,
+                    target: Some(taken),
+                };
+            }
+            found = self.expand(graph, taken, found);
+            taken += 1;
+        }
+        Searched {
+            taken,
+            found,
+            target: None,
         }
     }
-    count
-}
-
-// Searches from a node until the target is taken, or to the end; a target that is no node is never taken.
-fn search(
-    steps: &[u32],
-    starts: &[u16],
-    from: usize,
-    target: usize,
-    queue: &mut [u32],
-    places: &mut [u16],
-) -> Searched
-    requires { Searchable steps.now starts.now from queue.old places.old }
-    ensures { SearchedFrom (leads steps.now) (length places.old) from target queue.new places.new result }
-{
-    clear(places);
-    queue[0] = from as u32;
-    places[from] = 1;
-    let mut found = 1;
-    let mut taken = 0;
-    while taken < found {
-        if (queue[taken] % MAX_NODES) as usize == target {
-            return Searched {
-                taken: taken + 1,
-                found: found,
-                reached: true,
-            };
-        }
-        found = expand(steps, starts, taken, queue, places, found);
-        taken += 1;
-    }
-    Searched {
-        taken: taken,
-        found: found,
-        reached: false,
-    }
-}
-
-// Searches a table whose index is not made yet.
-pub fn search_table(
-    steps: &[u32],
-    starts: &mut [u16],
-    from: usize,
-    target: usize,
-    queue: &mut [u32],
-    places: &mut [u16],
-) -> Searched
-    requires { Unindexed steps.now starts.old from queue.old places.old }
-    ensures { SearchedFrom (leads steps.now) (length places.old) from target queue.new places.new result }
-{
-    index(steps, starts);
-    search(steps, starts, from, target, queue, places)
 }

@@ -1,20 +1,45 @@
 // The names of the nodes: parts of two lent slices, counted through the first and on through the second.
 ghost use Rattle.std.specs.Prelude.{◌≡◌, ◌<◌, length};
-ghost use Rattle.search.specs.Spans.{span_lengths, spanned};
+ghost use Rattle.search.specs.Spans.{spanned, name_by};
 
 use text::part;
 
-// A span is its start times this + its length.
-pub const SPAN_LENGTHS: u32 = 512;
+// Where a name stands.
+#[derive(Clone, Copy)]
+pub struct Span {
+    pub start: u32,
+    pub size: u16,
+}
 
-// The part that a span stands for: of whichever slice it begins in.
-pub fn name_of<'a>(first: &'a [u8], second: &'a [u8], span: u32) -> &'a [u8]
-    ensures { (result.now ≡ spanned first.now second.now span) × (length result.now < span_lengths) }
-{
-    let start = (span / SPAN_LENGTHS) as usize;
-    let size = (span % SPAN_LENGTHS) as usize;
-    if start < first.len() {
-        return part(first, start, size);
+impl Span {
+    // The part that it stands for, of whichever slice it begins in.
+    #[tactic(auto, using(crate::proofs::Spanning::parts))]
+    pub fn of<'a>(self, first: &'a [u8], second: &'a [u8]) -> &'a [u8]
+        ensures { (result.now ≡ spanned first.now second.now self) × (length result.now < 65536) }
+    {
+        let start = self.start as usize;
+        let size = self.size as usize;
+        if start < first.len() {
+            return part(first, start, size);
+        }
+        part(second, start - first.len(), size)
     }
-    part(second, start - first.len(), size)
+}
+
+// The names of the nodes, by number.
+#[derive(Clone, Copy)]
+pub struct Names<'a> {
+    pub first: &'a [u8],
+    pub second: &'a [u8],
+    pub spans: &'a [Span],
+}
+
+impl<'a> Names<'a> {
+    // The name of a node.
+    pub fn name(self, node: usize) -> &'a [u8]
+        requires { node < length self.spans.now }
+        ensures { (result.now ≡ name_by self.entry.first.now self.entry.second.now self.entry.spans.now node) × (length result.now < 65536) }
+    {
+        self.spans[node].of(self.first, self.second)
+    }
 }

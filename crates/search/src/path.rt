@@ -2,17 +2,17 @@
 ghost use Rattle.std.specs.Prelude.{◌≡◌, ◌≤◌, length};
 ghost use Rattle.search.specs.Promise.{path_to, Back};
 
-use crate::MAX_MOVES;
+use crate::step::Step;
 
 // How many steps the path to a place has.
-pub fn path_length(queue: &[u32], place: usize) -> usize
+pub fn path_length(queue: &[Step], place: usize) -> usize
     requires { Back queue.now place }
     ensures { (result ≡ length (path_to queue.now place)) × (result ≤ place) }
 {
     let mut j = place;
     let mut n = 0;
     while 0 < j {
-        j = (queue[j] / MAX_MOVES) as usize;
+        j = queue[j].from();
         n += 1;
     }
     n

@@ -2,10 +2,10 @@
 use Rattle.std.proofs.Common.{◌-◌, length}
 use Rattle.search.specs.Steps.{leads}
 use Rattle.search.proofs.Looking.{Looking}
-use Rattle.search.proofs.breadth.search.Given as goal
+use Rattle.search.proofs.breadth.Search.run.Given as goal
 
 abbrev pub invariant-loop-taken : goal.invariant-loop-taken
-invariant-loop-taken l = Looking (leads l.steps) (length l.fn.places) l.from l.target l.queue l.places l.found l.taken
+invariant-loop-taken l = Looking (leads l.graph.steps.now) (length l.fn.self.places.now) l.from l.target l.self.queue.now l.self.places.now l.found l.taken
 
 abbrev pub decreases-loop-taken : goal.decreases-loop-taken
-decreases-loop-taken l = length l.fn.places - l.taken
+decreases-loop-taken l = length l.fn.self.places.now - l.taken
