@@ -58,6 +58,7 @@ impl<'a> Record<'a> {
     }
 
     // How many names there are.
+    #[tactic(auto, using(crate::proofs::Meaning::names_counted))]
     pub fn name_count(&self) -> usize
         ensures { result ≡ length (names self.now) }
     {
@@ -65,6 +66,7 @@ impl<'a> Record<'a> {
     }
 
     // How many pairs of a kind there are.
+    #[tactic(auto, using(crate::proofs::Meaning::pairs_counted))]
     pub fn pair_count(&self, kind: Kind) -> usize
         ensures { result ≡ length (pairs_of kind self.now) }
     {
@@ -79,6 +81,7 @@ impl<'a> Record<'a> {
     }
 
     // Where the own name stands, if there is one.
+    #[tactic(auto, using(crate::proofs::Meaning::own_part_absent))]
     pub fn own_part(&self) -> Option<Part>
         ensures { result ≡ mapped (part_of self.now) self.now.name }
     {
@@ -87,6 +90,7 @@ impl<'a> Record<'a> {
     }
 
     // Where the name at a place stands, if there are as many.
+    #[tactic(auto, using(crate::proofs::Meaning::part_absent))]
     pub fn part(&self, i: usize) -> Option<Part>
         ensures { result ≡ mapped (part_of self.now) (slice_get (names self.now) i) }
     {
@@ -97,6 +101,7 @@ impl<'a> Record<'a> {
     }
 
     // Where the names of the pair of a kind at a place stand, if there are as many.
+    #[tactic(auto, using(crate::proofs::Meaning::pair_small, crate::proofs::Meaning::pair_parts_absent))]
     pub fn pair_parts(&self, kind: Kind, i: usize) -> Option<PairParts>
         ensures { result ≡ mapped (pair_parts self.now) (slice_get (pairs_of kind self.now) i) }
     {

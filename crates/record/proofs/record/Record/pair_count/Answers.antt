@@ -1,7 +1,0 @@
--- As many as the count says.
-use Rattle.std.proofs.Common.{◌∙◌}
-use Rattle.record.proofs.Meaning.{pairs_counted}
-use Rattle.record.proofs.record.Record.pair_count.Goals as goal
-
-pub returns : goal.returns
-returns c = rw (← c.self.view_is) (c.pair_count.ensures.0 ∙ pairs_counted _ c.self.invariant c.args.kind)
