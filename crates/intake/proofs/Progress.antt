@@ -1,22 +1,16 @@
 -- A field taken into the tables and the own name: what is judged, the room for a pair, and what stands then.
-use mathlib.Core.Path.{◌≡◌, refl, sym, ap, ◌∙◌}
-use mathlib.Core.Bool.{Bool, true, false, cond, ◌||◌}
-use mathlib.Core.List.{List}
-use Rattle.std.specs.Prelude.{Option, Some, None}
-use mathlib.Core.Logic.{inr}
-use Prim.Native.Nat.{ℕ, zero, suc, ◌+◌, ◌-◌, ◌≤◌, ◌<◌}
-use native.Mathlib.Omega.{arith}
-use native.Mathlib.Numerals.{add-one}
-use lib.Dec.{eqb, ltb}
-use lib.ListN.{length, take, drop, length-drop}
-use lib.Seq.{take_all, take-append_seam}
-use borrow.Author.Tests.{lt-ltb, le-ltb, ltb-false, eqb-true}
+use Rattle.std.proofs.Common.{subst, ◌≡◌, refl, sym, ap, ◌∙◌, Bool, true, false, cond, ◌||◌, List, inr, ℕ, ◌+◌, ◌≤◌, ◌<◌, arith, eqb, ltb, length, take, drop, lt-ltb, le-ltb, ltb-false, eqb-true}
+use Rattle.std.specs.Prelude.{Option, Some, None, Result, Ok, Err}
+use lib.Seq.{take-append_seam}
 use Rattle.model.specs.declared.Kind.{Kind}
 use Rattle.model.specs.declared.Kind.TheVariants.{Subgraph, Translation}
 use Rattle.model.specs.Bytes.{Bytes, compare_bytes, put}
 use Rattle.model.specs.Record.{Pair, GraphName, insert, names, any_long, bodies, with_name, with_pair, judge, max_name_bytes}
 use Rattle.model.specs.Statements.{Ascending}
-use Rattle.model.specs.Reading.{took, wrong, judged}
+use Rattle.model.specs.Reading.{Taken, took, wrong, judged}
+use Rattle.model.specs.Faults.{fault_number}
+use Rattle.model.specs.declared.fault.Fault.{Fault}
+use Rattle.model.specs.declared.fault.Fault.TheVariants.{LongName}
 use Rattle.text.proofs.Order.{bytes_order}
 use Rattle.text.proofs.Ascending.{insert_members}
 use Rattle.text.proofs.Put.{length_put}
@@ -29,14 +23,8 @@ use Rattle.sorted.proofs.Pairs.{names_with_pair}
 use Rattle.text.proofs.Total.{total, total_count, total_bodies, ascending_once, total_part}
 use Rattle.tables.proofs.Judge.{good_put, names_owned, any_insert, length_shown, judge_tables}
 use Rattle.text.proofs.Tests.{either_true}
-use Rattle.fields.specs.declared.field.Content.{Content}
-use Rattle.fields.specs.declared.field.Content.TheVariants.{Name}
-use Rattle.fields.specs.Fields.{apply}
-use Rattle.fields.specs.Contents.{meaning_of}
 use Rattle.intake.specs.declared.taking.State.{State}
-use Rattle.intake.specs.declared.taking.FieldTaken.{FieldTaken}
-use Rattle.intake.specs.declared.taking.FieldTaken.TheVariants.{Took, Wrong}
-use Rattle.intake.specs.State.{own_of, graph_now, fault_with, state_taken, name_taken, Held, FittingState, TakenAs}
+use Rattle.intake.specs.State.{own_of, graph_now, fault_with, by_number, state_taken, name_taken, Held, FittingState, TakenAs}
 
 -- ------------------------------------------------------------------ what is judged
 
@@ -44,36 +32,36 @@ use Rattle.intake.specs.State.{own_of, graph_now, fault_with, state_taken, name_
 now_names : (t : Tables) → Good None t → (o : Option Bytes) → names (owned o (graph_in t)) ≡ names_and o (table_names t)
 now_names t good o = names_owned o (graph_in t) ∙ ap (names_and o) good.used
 
-pub own_some : (own : Bytes) (n : ℕ) → (n ≡ 0 → ⊥) → own_of own n ≡ Some (take (n - 1) own)
-own_some own zero h = absurd (h refl)
-own_some own (suc k) h = let e : suc k - 1 ≡ k = omega arith in rw e
-
 -- ------------------------------------------------------------------ a state that is judged
 
 module _ (refs subs trans : List ℕ) (pool own : Bytes) (s : State) (h : Held (tables refs subs trans pool s.sizes) own s.own) where
   abbrev shown : GraphName
   shown = graph_now (tables refs subs trans pool s.sizes) own s.own
 
-  pub state_taken_lem : (r : FieldTaken) → r ≡ state_taken (fault_with (own_of own s.own) (names_in pool s.sizes.names refs) s.sizes) s
+  pub state_taken_lem : (r : Result State Fault) → by_number r ≡ state_taken (fault_with (own_of own s.own) (names_in pool s.sizes.names refs) s.sizes) s
       → (g : GraphName) → shown ≡ g → TakenAs (tables refs subs trans pool) own r (judged g)
   state_taken_lem r e g d =
       let j = judge_tables (tables refs subs trans pool s.sizes) (own_of own s.own) h.good in
-      rw (e, ← d, ← j) (go (eqb (judge shown) 0) refl)
+      subst (λ (m : Taken). TakenAs (tables refs subs trans pool) own r m) (rw d)
+      (go r (eqb (judge shown) 0) refl (rw (← j) at e))
     where
-      go : (b : Bool) → eqb (judge shown) 0 ≡ b → TakenAs (tables refs subs trans pool) own (cond b (Took s) (Wrong (judge shown))) (cond b (took shown) (wrong (judge shown)))
-      go true f = record { same = refl; fitting = record { held = h; sizes = eqb-true (judge shown) 0 f } }
-      go false f = record { same = refl; fitting = tt }
+      go : (r : Result State Fault) (b : Bool) → eqb (judge shown) 0 ≡ b → by_number r ≡ cond b (Ok s) (Err (judge shown))
+          → TakenAs (tables refs subs trans pool) own r (cond b (took shown) (wrong (judge shown)))
+      go (Ok u) true f e = let p : u ≡ s = cc in rw p (record { same = refl; fitting = record { held = h; sizes = eqb-true (judge shown) 0 f } })
+      go (Ok u) false f e = cc
+      go (Err v) true f e = cc
+      go (Err v) false f e = let p : fault_number v ≡ judge shown = cc in record { same = rw p; fitting = tt }
 
 -- ------------------------------------------------------------------ an own name
 
-own_kept : (own x : Bytes) → own_of (put own 0 x) (length x + 1) ≡ Some x
+own_kept : (own x : Bytes) → take (length x) (put own 0 x) ≡ x
 unfolding put
-own_kept own x = rw (add-one (length x)) (ap Some (take-append_seam x (drop (0 + length x) own)))
+own_kept own x = take-append_seam x (drop (0 + length x) own)
 
 -- copied into its buffer, the name is the own name
-pub name_taken_lem : (ns : List Bytes) (sizes : Sizes) (own own' x : Bytes) (size : ℕ) → size ≡ 0 + length x → own' ≡ put own 0 x → length x ≤ max_name_bytes
-    → state_taken (fault_with (own_of own' (size + 1)) ns sizes) (record { sizes = sizes; own = size + 1 }) ≡ name_taken ns sizes x
-name_taken_lem ns sizes own own' x size e d h = let n : size ≡ length x = omega arith in rw (n, d, own_kept own x, le-ltb max_name_bytes (length x) h)
+pub name_taken_lem : (ns : List Bytes) (sizes : Sizes) (own own' x : Bytes) → own' ≡ put own 0 x → length x ≤ max_name_bytes
+    → state_taken (fault_with (own_of own' (Some (length x))) ns sizes) (record { sizes = sizes; own = Some (length x) }) ≡ name_taken ns sizes x
+name_taken_lem ns sizes own own' x d h = rw (d, own_kept own x, le-ltb max_name_bytes (length x) h)
 
 judged_long : (g : GraphName) → any_long (names g) ≡ true → judged g ≡ wrong 11
 unfolding judge
@@ -102,25 +90,29 @@ own_and_pair Subgraph p o g = refl
 own_and_pair Translation p o g = refl
 
 -- what stands before the field
-module _ {refs subs trans : List ℕ} {pool own : Bytes} {sizes : Sizes} {n : ℕ} (h : FittingState (tables refs subs trans pool sizes) own n) where
+module _ {refs subs trans : List ℕ} {pool own : Bytes} {sizes : Sizes} {n : Option ℕ} (h : FittingState (tables refs subs trans pool sizes) own n) where
   abbrev before : GraphName
   before = graph_now (tables refs subs trans pool sizes) own n
 
-  pub name_progress : (own' x : Bytes) (r : FieldTaken) → r ≡ name_taken (names_in pool sizes.names refs) sizes x → (length x ≤ max_name_bytes → own' ≡ put own 0 x)
+  pub name_progress : (own' x : Bytes) (r : Result State Fault) → by_number r ≡ name_taken (names_in pool sizes.names refs) sizes x → (length x ≤ max_name_bytes → own' ≡ put own 0 x)
       → TakenAs (tables refs subs trans pool) own' r (judged (with_name x before))
   name_progress own' x r e d = go (ltb max_name_bytes (length x)) refl
     where
+      long : any_long (names (with_name x before)) ≡ true → (r : Result State Fault) → by_number r ≡ Err 11
+          → TakenAs (tables refs subs trans pool) own' r (judged (with_name x before))
+      long m (Ok u) e = cc
+      long m (Err v) e = let p : fault_number v ≡ 11 = cc in record { same = rw (p, judged_long (with_name x before) m); fitting = tt }
+
       go : (b : Bool) → ltb max_name_bytes (length x) ≡ b → TakenAs (tables refs subs trans pool) own' r (judged (with_name x before))
       go true l =
-          let m : any_long (names (with_name x before)) ≡ true = ap any_long (names_owned (Some x) before) ∙ any_insert x (names (owned None before)) ∙ rw l in
-          rw (e, l, judged_long (with_name x before) m) (record { same = refl; fitting = tt })
+          long (ap any_long (names_owned (Some x) before) ∙ any_insert x (names (owned None before)) ∙ rw l) r (e ∙ rw l)
       go false l =
           let s = ltb-false max_name_bytes (length x) l in
-          let k : own_of own' (length x + 1) ≡ Some x = rw (d s) (own_kept own x) in
-          state_taken_lem refs subs trans pool own' (record { sizes = sizes; own = length x + 1 })
+          let k : own_of own' (Some (length x)) ≡ Some x = rw (d s, own_kept own x) in
+          state_taken_lem refs subs trans pool own' (record { sizes = sizes; own = Some (length x) })
           (record {
             good = h.held.good;
-            short = omega arith;
+            short = s;
             lengths = record {
               refs = h.held.lengths.refs;
               subs = h.held.lengths.subs;
@@ -129,7 +121,7 @@ module _ {refs subs trans : List ℕ} {pool own : Bytes} {sizes : Sizes} {n : �
               own = ap length (d s) ∙ length_put own 0 x (omega (arith, h.held.lengths.own)) ∙ h.held.lengths.own;
             };
           })
-          r (e ∙ sym (name_taken_lem (names_in pool sizes.names refs) sizes own own' x (length x) (omega arith) (d s) s)) (with_name x before) (rw k)
+          r (e ∙ sym (name_taken_lem (names_in pool sizes.names refs) sizes own own' x (d s) s)) (with_name x before) (rw k)
 
   -- ------------------------------------------------------------------ a pair
 
@@ -165,23 +157,23 @@ module _ {refs subs trans : List ℕ} {pool own : Bytes} {sizes : Sizes} {n : �
     pair = record { from = from; to = to }
 
     -- a long name of the pair's is one of the names
-    long_pair : ltb max_name_bytes (length to) || ltb max_name_bytes (length from) ≡ true → (at : Sizes → Tables) → TakenAs at own (Wrong 11) (judged (with_pair k pair before))
+    long_pair : ltb max_name_bytes (length to) || ltb max_name_bytes (length from) ≡ true → (at : Sizes → Tables) → TakenAs at own (Err LongName) (judged (with_pair k pair before))
     long_pair l at =
         let m : any_long (names (with_pair k pair before)) ≡ true =
         ap any_long (names_with_pair k pair before) ∙ any_insert to (insert compare_bytes from (names before)) ∙ rw (any_insert from (names before)) (either_more (ltb max_name_bytes (length to)) (ltb max_name_bytes (length from)) (any_long (names before)) l) in
         rw (judged_long (with_pair k pair before) m) (record { same = refl; fitting = tt })
 
-    pub long_from : (at : Sizes → Tables) → max_name_bytes < length from → TakenAs at own (Wrong 11) (judged (with_pair k pair before))
+    pub long_from : (at : Sizes → Tables) → max_name_bytes < length from → TakenAs at own (Err LongName) (judged (with_pair k pair before))
     long_from at l = long_pair ((either_true (ltb max_name_bytes (length to)) (ltb max_name_bytes (length from))).1 (inr (lt-ltb max_name_bytes (length from) l))) at
 
-    pub long_to : (at : Sizes → Tables) → max_name_bytes < length to → TakenAs at own (Wrong 11) (judged (with_pair k pair before))
+    pub long_to : (at : Sizes → Tables) → max_name_bytes < length to → TakenAs at own (Err LongName) (judged (with_pair k pair before))
     long_to at l = long_pair (rw (lt-ltb max_name_bytes (length to) l)) at
 
     -- the tables with the pair put in
     module _ {refs' subs' trans' : List ℕ} {pool' : Bytes} {sizes' : Sizes}
         (p : PairPut k (tables refs subs trans pool sizes) from to (tables refs' subs' trans' pool' sizes')) where
       pub pair_progress : length refs' ≡ length refs → length subs' ≡ length subs → length trans' ≡ length trans → length pool' ≡ length pool
-          → (r : FieldTaken) → r ≡ state_taken (fault_with (own_of own n) (names_in pool' sizes'.names refs') sizes') (record { sizes = sizes'; own = n })
+          → (r : Result State Fault) → by_number r ≡ state_taken (fault_with (own_of own n) (names_in pool' sizes'.names refs') sizes') (record { sizes = sizes'; own = n })
           → TakenAs (tables refs' subs' trans' pool') own r (judged (with_pair k pair before))
       pair_progress a b c d r e =
           state_taken_lem refs' subs' trans' pool' own (record { sizes = sizes'; own = n })
@@ -197,13 +189,3 @@ module _ {refs subs trans : List ℕ} {pool own : Bytes} {sizes : Sizes} {n : �
             };
           })
           r e (with_pair k pair before) (ap (owned (own_of own n)) p.graph ∙ own_and_pair k pair (own_of own n) (graph_in (tables refs subs trans pool sizes)))
-
--- ------------------------------------------------------------------ what the field says
-
-to_end : (f : Bytes) (i : ℕ) → take (length f) (drop i f) ≡ drop i f
-to_end f i = take_all (length f) (drop i f) (rw length-drop (omega arith))
-
-module _ (at : Sizes → Tables) (own : Bytes) (g : GraphName) (f : Bytes) (c : Content) where
-  pub name_said : (r : FieldTaken) (i : ℕ) → c ≡ Name i → (x : Bytes) → x ≡ take (length f) (drop i f) → TakenAs at own r (judged (with_name x g))
-      → TakenAs at own r (apply g (meaning_of f c))
-  name_said r i e x d t = rw e (rw (d, to_end f i) at t)

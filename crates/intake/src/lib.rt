@@ -7,4 +7,4 @@ mod storing;
 mod taking;
 
 pub use storing::store_state;
-pub use taking::{FieldTaken, State, begin, name_table, own_buffer, pair_table, pool, take_field};
+pub use taking::{NAME_ROOM, PAIR_ROOM, POOL_ROOM, State, take_field};

@@ -19,20 +19,19 @@ pub fn store_state(
     requires { FittingState (tables refs.old subs.old trans.old pool.old state.sizes) own.now state.own × (length buffer.old ≡ record_length) }
     ensures { buffer.new ≡ encode (graph_now (tables refs.old subs.old trans.old pool.old state.sizes) own.now state.own) }
 {
-    let n = state.own;
-    if n == 0 {
-        tables::store(refs, subs, trans, pool, state.sizes, 0, buffer);
-        return;
+    match state.own_name(own) {
+        None => tables::store(refs, subs, trans, pool, state.sizes, None, buffer),
+        Some(name) => {
+            let placed = sorted::put_name(refs, subs, trans, pool, state.sizes, 0, name);
+            tables::store(
+                refs,
+                subs,
+                trans,
+                pool,
+                placed.sizes,
+                Some(placed.place),
+                buffer,
+            );
+        }
     }
-    let placed = sorted::put_name(
-        refs,
-        subs,
-        trans,
-        pool,
-        state.sizes,
-        0,
-        text::part(own, 0, n - 1),
-    );
-    let place = placed.place;
-    tables::store(refs, subs, trans, pool, placed.sizes, place + 1, buffer);
 }
