@@ -3,12 +3,12 @@ use mathlib.Core.Path.{◌≡◌, refl, sym, ap, ◌∙◌}
 use mathlib.Core.Logic.{⊎_elim}
 use mathlib.Core.List.Memᴰ
 use mathlib.Core.List.{[], ◌∷◌, Memᴰ}
-use Prim.Native.Nat.{◌-◌, ◌/◌, ◌%◌, ◌≤◌, ◌<◌}
+use Prim.Native.Nat.{ℕ, ◌/◌, ◌%◌, ◌≤◌, ◌<◌}
 use native.Mathlib.Omega.{arith}
 use lib.ListN.{length, length-append, replicate}
 use lib.Seq.{take_all}
 use borrow.Author.Tests.{lt-ltb, le-ltb}
-use Rattle.model.specs.Bytes.{Bytes, put}
+use Rattle.model.specs.Bytes.{Bytes}
 use Rattle.model.specs.Record.{insert, insert_all, empty, with_name, names, judge, bodies, max_name_bytes, max_bodies_bytes}
 use Rattle.model.specs.Layout.{record_length, encode}
 use Rattle.model.specs.Outcome.{Outcome, fresh_or, new_record}
@@ -18,7 +18,6 @@ use Rattle.record.specs.Test.{Under}
 use Rattle.record.specs.Coded.{meaning}
 use Rattle.sorted.specs.Tables.{Tables, tables, body_in, read_out, Kept}
 use Rattle.tables.specs.Judging.{Storable}
-use Rattle.tables.proofs.Writing.{cleared}
 
 module _ (name : Bytes) where
   alone : names (with_name name empty) ≡ name ∷ []
@@ -45,8 +44,8 @@ module _ (name : Bytes) where
     new_long e h = rw (written_opened b e) (fresh_long h)
 
     -- which is what clearing leaves
-    pub new_cleared : length b ≡ record_length → max_name_bytes < length name → (new_record name b).buffer ≡ put b 0 (replicate (length b - 0) 0)
-    new_cleared e h = ap (λ (o : Outcome). o.buffer) (new_long e h) ∙ sym (cleared b record_length e)
+    pub new_cleared : length b ≡ record_length → max_name_bytes < length name → (new_record name b).buffer ≡ replicate (length b) 0
+    new_cleared e h = ap (λ (o : Outcome). o.buffer) (new_long e h) ∙ ap (λ (k : ℕ). replicate {A = ℕ} k 0) (sym e)
 
     pub new_short : length b ≡ record_length → length name ≤ max_name_bytes → new_record name b ≡ record { number = 0; buffer = encode (with_name name empty) }
     unfolding new_record

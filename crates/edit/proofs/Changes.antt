@@ -1,13 +1,15 @@
 -- A change made of the tables: the room that it has, and a pair more.
-use mathlib.Core.Path.{◌≡◌, refl}
-use mathlib.Core.Bool.{Bool, true, false}
+use mathlib.Core.Path.{◌≡◌}
+use mathlib.Core.Bool.{true}
 use mathlib.Core.List.{List}
-use Prim.Native.Nat.{ℕ, ◌+◌, ◌*◌}
+use Prim.Native.Nat.{ℕ}
 use native.Mathlib.Omega.{arith}
-use lib.ListN.{length}
-use Rattle.model.specs.declared.Kind.{Kind}
+use lib.ListN.{length, replicate, length-replicate}
+use Rattle.std.specs.Prelude.{Option, Some, None}
+use Rattle.std.specs.Borrow.{Bor}
+use Rattle.std.specs.Option.{IfSome, option_copied}
 use Rattle.model.specs.Bytes.{Bytes}
-use Rattle.model.specs.Record.{GraphName, max_name_bytes, max_names, max_pairs, max_bodies_bytes}
+use Rattle.model.specs.Record.{GraphName}
 use Rattle.model.specs.Layout.{shown, decode}
 use Rattle.model.specs.Opening.{is_some}
 use Rattle.sorted.specs.declared.putting.Sizes.{Sizes}
@@ -15,8 +17,9 @@ use Rattle.sorted.specs.Tables.{Tables, Kept, PairPut}
 use Rattle.tables.specs.Judging.{Limited}
 use Rattle.tables.specs.Loading.{sizes_of}
 use Rattle.tables.specs.Merging.{MergeRoom}
-use Rattle.edit.specs.Merging.{sizes_if}
-use Rattle.edit.specs.Changing.{ChangeRoom, PairedIf}
+use Rattle.edit.specs.declared.changing.Relation.{Relation}
+use Rattle.edit.specs.Merging.{merged_sizes}
+use Rattle.edit.specs.Changing.{ChangeRoom, Roomy, Paired}
 use Rattle.tables.proofs.Records.{sizes_within}
 use Rattle.tables.proofs.Judge.{good_put}
 use Rattle.tables.proofs.Merge.{all_count, all_bytes}
@@ -30,26 +33,46 @@ merge_room h u kept r = record {
   translation = omega (arith, r.translation);
 }
 
--- a pair more
-module _ (kind : Kind) (u : Tables) (from to : Bytes) (pairing : Bool) where
-  pub paired_if : (w : Tables) → pairing ≡ true → PairPut kind u from to w → PairedIf pairing kind u from to w
-  paired_if w e p = rw e (record { good = λ own g. good_put own kind u w from to g p; graph = p.graph })
+pub merge_rooms : (other : Option (Bor Bytes)) (u : Tables) → Kept u → IfSome (option_copied other) (λ b. is_some (decode b) ≡ true)
+    → ChangeRoom u.sizes (merged_sizes (option_copied other)) u.refs u.subs u.trans u.pool
+    → IfSome other (λ b. (is_some (decode b.now) ≡ true) × MergeRoom u (shown b.now) (length (shown b.now).subgraph) (length (shown b.now).translation))
+merge_rooms None u kept v r = tt
+merge_rooms (Some b) u kept v r = (v, merge_room (shown b.now) u kept r)
 
--- the large tables have room
-module _ (s t : Sizes) (refs subs trans : List ℕ) (pool : Bytes) where
-  pub large_room : Limited s → Limited t → length refs ≡ 2 * max_names + 2 → length subs ≡ 2 * max_pairs + 1 → length trans ≡ 2 * max_pairs + 1 → length pool ≡ 2 * max_bodies_bytes + 2 * max_name_bytes → ChangeRoom s t refs subs trans pool
-  large_room f g a b c d = record {
-    count = omega (arith, f.names, g.names);
-    room = omega (arith, f.bytes, g.bytes);
-    subgraph = omega (arith, f.subgraph, g.subgraph);
-    translation = omega (arith, f.translation, g.translation);
-    few = omega arith;
-    small = omega arith;
-  }
+-- a pair more
+pub paired_put : (p : Relation) (u w : Tables) → PairPut p.kind u p.from.now p.to.now w → Paired (Some p) u w
+paired_put p u w put = record { good = λ own g. good_put own p.kind u w p.from.now p.to.now g put; graph = put.graph }
+
+-- tables of these sizes have the room
+pub room_in : (s t : Sizes) (n k m : ℕ) (refs subs trans : List ℕ) (pool : Bytes) → Roomy s t n k m → refs ≡ replicate n 0 → subs ≡ replicate k 0 → trans ≡ replicate k 0 → pool ≡ replicate m 0
+    → ChangeRoom s t refs subs trans pool
+room_in s t n k m refs subs trans pool r a b c d =
+    let e = length-replicate {A = ℕ} n 0 in
+    let f = length-replicate {A = ℕ} k 0 in
+    let g = length-replicate {A = ℕ} m 0 in
+    rw (a, b, c, d) (record {
+      count = omega (arith, r.names);
+      room = omega (arith, r.bytes);
+      subgraph = omega (arith, r.subgraph);
+      translation = omega (arith, r.translation);
+      few = omega (arith, r.few);
+      small = omega (arith, r.small);
+    })
+
+pub roomy_large : (s t : Sizes) → Limited s → Limited t → Roomy s t 1026 2049 45552
+roomy_large s t f g = record {
+  names = omega (arith, f.names, g.names);
+  subgraph = omega (arith, f.subgraph, g.subgraph);
+  translation = omega (arith, f.translation, g.translation);
+  bytes = omega (arith, f.bytes, g.bytes);
+  few = omega arith;
+  fewer = omega arith;
+  small = omega arith;
+}
 
 pub limited : (b : Bytes) → is_some (decode b) ≡ true → Limited (sizes_of (shown b))
 limited b v = let z = sizes_within b v in record { names = z.count; bytes = z.room; subgraph = z.subgraphs; translation = z.translations }
 
-pub limited_if : (merging : Bool) (b : Bytes) → (merging ≡ true → is_some (decode b) ≡ true) → Limited (sizes_if merging (shown b))
-limited_if true b v = limited b (v refl)
-limited_if false b v = record { names = omega arith; bytes = omega arith; subgraph = omega arith; translation = omega arith }
+pub limited_merged : (other : Option Bytes) → IfSome other (λ b. is_some (decode b) ≡ true) → Limited (merged_sizes other)
+limited_merged (Some b) v = limited b v
+limited_merged None v = record { names = omega arith; bytes = omega arith; subgraph = omega arith; translation = omega arith }

@@ -1,7 +1,8 @@
 -- Both kinds of pairs of a graph name put into tables, if it is merged.
 use mathlib.Core.Path.{◌≡◌, refl, ap, ◌∙◌}
 use mathlib.Core.Logic.{inl, ⊎_elim}
-use mathlib.Core.Bool.{Bool, true}
+use Rattle.std.specs.Prelude.{Some}
+use Rattle.model.specs.Layout.{shown}
 use mathlib.Core.List.{List, [], ◌∷◌, Memᴰ}
 use Prim.Native.Nat.{◌≤◌}
 use native.Mathlib.Omega.{arith}
@@ -13,7 +14,7 @@ use Rattle.text.proofs.Order.{bytes_order}
 use Rattle.text.proofs.Ascending.{insert_all_members}
 use Rattle.sorted.specs.Tables.{Tables, table_names, graph_in, Kept}
 use Rattle.tables.specs.Merging.{with_pairs, all_of, MergeRoom, PairsPut}
-use Rattle.edit.specs.Merging.{PairsMerged}
+use Rattle.edit.specs.Merging.{Merged}
 use Rattle.sorted.proofs.Search.{length_names}
 use Rattle.tables.proofs.Merge.{fewer, shorter, all_ascending, all_count, all_bytes}
 
@@ -29,7 +30,10 @@ unfolding insert_all
 with_translations [] g = refl
 with_translations (p ∷ ps) g = with_translations ps _
 
-module _ (t : Tables) (h : GraphName) (start : Kept t) (room : MergeRoom t h (length h.subgraph) (length h.translation)) where
+module _ (t : Tables) (b : Bytes) (start : Kept t) (room : MergeRoom t (shown b) (length (shown b).subgraph) (length (shown b).translation)) where
+  abbrev h : GraphName
+  h = shown b
+
   module _ (u : Tables) (first : PairsPut Subgraph t h u) where
     -- no names come in that are of neither
     all_inside : (x : Bytes) → Memᴰ x (all_of u h) → Memᴰ x (all_of t h)
@@ -54,13 +58,12 @@ module _ (t : Tables) (h : GraphName) (start : Kept t) (room : MergeRoom t h (le
       translation = omega (arith, first.translation, room.translation);
     }
 
-    pub merged : (merging : Bool) → merging ≡ true → (w : Tables) → PairsPut Translation u h w → PairsMerged merging t h w
-    merged merging e w second =
+    pub merged_both : (w : Tables) → PairsPut Translation u h w → Merged (Some b) t w
+    merged_both w second =
         let n = length_names w.pool w.sizes.names w.refs second.kept.count in
         let few = fewer (table_names w) (all_of u h) second.kept.order second.within in
         let short = shorter (table_names w) (all_of u h) second.kept.order second.within in
-        rw e
-        (record {
+        record {
           kept = second.kept;
           good = λ own g. second.good own (first.good own g);
           graph =
@@ -71,4 +74,4 @@ module _ (t : Tables) (h : GraphName) (start : Kept t) (room : MergeRoom t h (le
           bytes = omega (arith, short, all_shorter, second.kept.total, all_bytes t h start);
           subgraph = omega (arith, first.subgraph, second.subgraph);
           translation = omega (arith, first.translation, second.translation);
-        })
+        }

@@ -1,32 +1,37 @@
 -- A change of a record: the pairs of another, if it is merged, and one pair more, if there is one. The room that it takes.
-use Rattle.std.specs.Prelude.{◌≡◌, Bool, true, false, List, ℕ, ◌+◌, ◌*◌, ◌≤◌, length, Option}
+use Rattle.std.specs.Prelude.{◌≡◌, true, List, ℕ, ◌+◌, ◌*◌, ◌≤◌, ◌<◌, length, Option, Some, None}
 use Rattle.model.specs.Bytes.{Bytes}
-use Rattle.model.specs.declared.Kind.{Kind}
-use Rattle.model.specs.Record.{Pair, GraphName, with_pair, max_name_bytes}
+use Rattle.model.specs.Record.{GraphName, with_pair, max_name_bytes}
 use Rattle.model.specs.Layout.{shown, decode}
 use Rattle.model.specs.Opening.{is_some}
 use Rattle.model.specs.Outcome.{Outcome, kept_or}
+use Rattle.std.specs.Option.{IfSome}
 use Rattle.sorted.specs.declared.putting.Sizes.{Sizes}
 use Rattle.sorted.specs.Tables.{Tables, graph_in}
 use Rattle.tables.specs.Judging.{Good}
 use Rattle.tables.specs.Loading.{TableRoom}
-use Rattle.edit.specs.Merging.{merged_if}
+use Rattle.edit.specs.declared.changing.Relation.{Relation}
+use Rattle.edit.specs.Merging.{merged}
 
--- a pair more, if there is one
-abbrev pub paired_if : Bool → Kind → Pair → GraphName → GraphName
-paired_if false kind p g = g
-paired_if true kind p g = with_pair kind p g
+-- with a pair more, if there is one
+abbrev pub paired : Option Relation → GraphName → GraphName
+paired None g = g
+paired (Some p) g = with_pair p.kind (record { from = p.from.now; to = p.to.now }) g
 
 -- what a change gives: a number, and the buffer then
-abbrev pub change_of : Bytes → Bool → Bytes → Bool → Kind → Bytes → Bytes → Outcome
-change_of b merging c pairing kind from to = kept_or b (paired_if pairing kind (record { from = from; to = to }) (merged_if merging (shown c) (shown b)))
+abbrev pub change_of : Bytes → Option Bytes → Option Relation → Outcome
+change_of b other pair = kept_or b (paired pair (merged other (shown b)))
 
--- what is known of the arguments: a record, another if it is merged, and two short names
-pub record Changeable (b : Bytes) (merging : Bool) (c from to : Bytes) : Type 0 where
+-- both names of a relation are short
+pub record ShortNames (p : Relation) : Type 0 where
+  pub from : length p.from.now ≤ max_name_bytes
+  pub to : length p.to.now ≤ max_name_bytes
+
+-- what is known of the arguments: a record, another if it is merged, and two short names if a pair is put in
+pub record Changeable (b : Bytes) (other : Option Bytes) (pair : Option Relation) : Type 0 where
   pub own : is_some (decode b) ≡ true
-  pub other : merging ≡ true → is_some (decode c) ≡ true
-  pub from_short : length from ≤ max_name_bytes
-  pub to_short : length to ≤ max_name_bytes
+  pub others : IfSome other (λ c. is_some (decode c) ≡ true)
+  pub short : IfSome pair ShortNames
 
 -- there is room for both, and for a pair more with its two names
 abbrev pub ChangeRoom : Sizes → Sizes → List ℕ → List ℕ → List ℕ → Bytes → Type 0
@@ -37,6 +42,16 @@ ChangeRoom s t = TableRoom (record {
   translation = s.translation + t.translation + 1;
 })
 
+-- so there is in tables for n names, k pairs of either kind and m bytes
+pub record Roomy (s t : Sizes) (n k m : ℕ) : Type 0 where
+  pub names : s.names + t.names + 2 ≤ n
+  pub subgraph : s.subgraph + t.subgraph + 1 ≤ k
+  pub translation : s.translation + t.translation + 1 ≤ k
+  pub bytes : s.bytes + t.bytes + 2 * max_name_bytes ≤ m
+  pub few : n < 65536
+  pub fewer : k < 65536
+  pub small : m < 65536
+
 -- two graph names of these sizes fit the small tables together
 pub record FitSmall (s t : Sizes) : Type 0 where
   pub names : s.names + t.names ≤ 128
@@ -45,6 +60,6 @@ pub record FitSmall (s t : Sizes) : Type 0 where
   pub translation : s.translation + t.translation ≤ 128
 
 -- u are the tables t with a pair more, if there is one
-pub record PairedIf (pairing : Bool) (kind : Kind) (t : Tables) (from to : Bytes) (u : Tables) : Type 0 where
+pub record Paired (pair : Option Relation) (t u : Tables) : Type 0 where
   pub good : (own : Option Bytes) → Good own t → Good own u
-  pub graph : graph_in u ≡ paired_if pairing kind (record { from = from; to = to }) (graph_in t)
+  pub graph : graph_in u ≡ paired pair (graph_in t)

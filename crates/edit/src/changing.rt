@@ -1,39 +1,61 @@
 // A change of a record: the pairs of another put in, if it is merged, and one pair more, if there is one. The tables are small where
 // both records are.
-ghost use Rattle.std.specs.Prelude.{◌≡◌, true};
+ghost use Rattle.std.specs.Prelude.{◌≡◌, true, IfSome};
+ghost use Rattle.std.specs.Option.{option_copied};
 ghost use Rattle.model.specs.Layout.{shown, decode};
 ghost use Rattle.model.specs.Opening.{is_some};
 ghost use Rattle.sorted.specs.Tables.{tables, Kept, PairRoom};
 ghost use Rattle.tables.specs.Loading.{sizes_of};
-ghost use Rattle.edit.specs.Merging.{sizes_if};
 ghost use Rattle.tables.specs.Judging.{outcome, Limited};
-ghost use Rattle.edit.specs.Changing.{change_of, Changeable, ChangeRoom, FitSmall, PairedIf};
+ghost use Rattle.edit.specs.Merging.{merged_sizes};
+ghost use Rattle.edit.specs.Changing.{change_of, Changeable, ChangeRoom, Roomy, FitSmall, Paired};
 
-use crate::arrays::{name_table, pair_table, pool, small_name_table, small_pair_table, small_pool};
 use crate::merging::merge;
-use model::Kind;
+use model::{Fault, Kind};
+use record::{MAX_BODIES_BYTES, MAX_NAME_BYTES, MAX_NAMES, MAX_PAIRS};
 use sorted::{Sizes, put_pair};
 use tables::{keep_named, load, sizes_of};
+use text::filled;
+
+// The tables of a change stand in arrays: large ones for any two records, and small ones, which are cleared sooner. All have room for a
+// pair more, with its two names.
+const LARGE_NAMES: usize = 2 * MAX_NAMES + 2;
+
+const LARGE_PAIRS: usize = 2 * MAX_PAIRS + 1;
+
+const LARGE_BYTES: usize = 2 * MAX_BODIES_BYTES + 2 * MAX_NAME_BYTES;
+
+const SMALL_NAMES: usize = 128 + 2;
+
+const SMALL_PAIRS: usize = 128 + 1;
+
+const SMALL_BYTES: usize = 8192 + 2 * MAX_NAME_BYTES;
+
+// A relation of a kind between two names.
+#[derive(Clone, Copy)]
+pub(crate) struct Relation<'a> {
+    pub kind: Kind,
+    pub from: &'a [u8],
+    pub to: &'a [u8],
+}
 
 // Puts in a pair, if there is one.
 fn put_if(
-    pairing: bool,
-    kind: Kind,
+    pair: Option<Relation>,
     refs: &mut [u32],
     subs: &mut [u32],
     trans: &mut [u32],
     pool: &mut [u8],
     sizes: Sizes,
-    from: &[u8],
-    to: &[u8],
 ) -> Sizes
-    requires { Kept (tables refs.old subs.old trans.old pool.old sizes) × PairRoom (tables refs.old subs.old trans.old pool.old sizes) from.now to.now }
-    ensures { PairedIf pairing kind (tables refs.old subs.old trans.old pool.old sizes) from.now to.now (tables refs.new subs.new trans.new pool.new result) }
+    requires kept { Kept (tables refs.old subs.old trans.old pool.old sizes) }
+    requires room { IfSome pair (λ p. PairRoom (tables refs.old subs.old trans.old pool.old sizes) p.from.now p.to.now) }
+    ensures { Paired pair.entry (tables refs.old subs.old trans.old pool.old sizes) (tables refs.new subs.new trans.new pool.new result) }
 {
-    if pairing {
-        return put_pair(kind, refs, subs, trans, pool, sizes, from, to);
+    match pair {
+        None => sizes,
+        Some(p) => put_pair(p.kind, refs, subs, trans, pool, sizes, p.from, p.to),
     }
-    sizes
 }
 
 // The change, over tables that are lent.
@@ -43,99 +65,50 @@ fn change_in(
     trans: &mut [u32],
     pool: &mut [u8],
     buffer: &mut [u8],
-    merging: bool,
-    other: &[u8],
-    pairing: bool,
-    kind: Kind,
-    from: &[u8],
-    to: &[u8],
-) -> u32
-    requires { Changeable buffer.old merging other.now from.now to.now × ChangeRoom (sizes_of (shown buffer.old)) (sizes_if merging (shown other.now)) refs.old subs.old trans.old pool.old }
-    ensures { outcome result buffer.new ≡ change_of buffer.old merging other.now pairing kind from.now to.now }
+    other: Option<&[u8]>,
+    pair: Option<Relation>,
+) -> Result<(), Fault>
+    requires { Changeable buffer.old (option_copied other) pair × ChangeRoom (sizes_of (shown buffer.old)) (merged_sizes (option_copied other)) refs.old subs.old trans.old pool.old }
+    ensures { outcome result buffer.new ≡ change_of buffer.old (option_copied other.entry) pair.entry }
 {
-    let sizes = load(refs, subs, trans, pool, buffer);
-    let all = merge(merging, refs, subs, trans, pool, sizes, other);
-    let more = put_if(pairing, kind, refs, subs, trans, pool, all, from, to);
-    keep_named(buffer, refs, subs, trans, pool, more)
+    let own = load(refs, subs, trans, pool, buffer);
+    let both = merge(other, refs, subs, trans, pool, own);
+    let all = put_if(pair, refs, subs, trans, pool, both);
+    keep_named(buffer, refs, subs, trans, pool, all)
 }
 
-// The change, where the records are small.
-fn change_small(
+// The change, over tables of these sizes.
+fn change_sized<const NAMES: usize, const PAIRS: usize, const BYTES: usize>(
     buffer: &mut [u8],
-    merging: bool,
-    other: &[u8],
-    pairing: bool,
-    kind: Kind,
-    from: &[u8],
-    to: &[u8],
-) -> u32
-    requires { Changeable buffer.old merging other.now from.now to.now × FitSmall (sizes_of (shown buffer.old)) (sizes_if merging (shown other.now)) }
-    ensures { outcome result buffer.new ≡ change_of buffer.old merging other.now pairing kind from.now to.now }
+    other: Option<&[u8]>,
+    pair: Option<Relation>,
+) -> Result<(), Fault>
+    requires { Changeable buffer.old (option_copied other) pair × Roomy (sizes_of (shown buffer.old)) (merged_sizes (option_copied other)) NAMES PAIRS BYTES }
+    ensures { outcome result buffer.new ≡ change_of buffer.old (option_copied other.entry) pair.entry }
 {
-    let mut names = small_name_table();
-    let mut subgraph = small_pair_table();
-    let mut translation = small_pair_table();
-    let mut bodies = small_pool();
+    let mut names: [u32; NAMES] = filled(0);
+    let mut subgraph: [u32; PAIRS] = filled(0);
+    let mut translation: [u32; PAIRS] = filled(0);
+    let mut bodies: [u8; BYTES] = filled(0);
     change_in(
         &mut names,
         &mut subgraph,
         &mut translation,
         &mut bodies,
         buffer,
-        merging,
         other,
-        pairing,
-        kind,
-        from,
-        to,
-    )
-}
-
-// The change, of any two records.
-fn change_large(
-    buffer: &mut [u8],
-    merging: bool,
-    other: &[u8],
-    pairing: bool,
-    kind: Kind,
-    from: &[u8],
-    to: &[u8],
-) -> u32
-    requires { Changeable buffer.old merging other.now from.now to.now }
-    ensures { outcome result buffer.new ≡ change_of buffer.old merging other.now pairing kind from.now to.now }
-{
-    let mut names = name_table();
-    let mut subgraph = pair_table();
-    let mut translation = pair_table();
-    let mut bodies = pool();
-    change_in(
-        &mut names,
-        &mut subgraph,
-        &mut translation,
-        &mut bodies,
-        buffer,
-        merging,
-        other,
-        pairing,
-        kind,
-        from,
-        to,
+        pair,
     )
 }
 
 // How much of the tables another record takes, if it is merged.
-fn sizes_if(merging: bool, other: &[u8]) -> Sizes
-    requires { merging ≡ true → is_some (decode other.now) ≡ true }
-    ensures { result ≡ sizes_if merging (shown other.now) }
+fn merged_sizes(other: Option<&[u8]>) -> Sizes
+    requires { IfSome other (λ b. is_some (decode b.now) ≡ true) }
+    ensures { result ≡ merged_sizes (option_copied other.entry) }
 {
-    if merging {
-        return sizes_of(other);
-    }
-    Sizes {
-        names: 0,
-        bytes: 0,
-        subgraph: 0,
-        translation: 0,
+    match other {
+        None => Sizes::default(),
+        Some(b) => sizes_of(b),
     }
 }
 
@@ -144,36 +117,23 @@ fn fit_small(s: Sizes, t: Sizes) -> bool
     requires { Limited s × Limited t }
     ensures { result ≡ true → FitSmall s t }
 {
-    if 128 < s.names + t.names {
-        return false;
-    }
-    if 128 < s.subgraph + t.subgraph {
-        return false;
-    }
-    if 128 < s.translation + t.translation {
-        return false;
-    }
-    s.bytes + t.bytes <= 8192
+    s.names + t.names <= 128
+        && s.subgraph + t.subgraph <= 128
+        && s.translation + t.translation <= 128
+        && s.bytes + t.bytes <= 8192
 }
 
-// Adds to a record all pairs of another, if it is merged, and a pair of short names, if there is one. Gives the number of a refusal, which
-// leaves the buffer, or 0.
+// Adds to a record all pairs of another, if it is merged, and a pair of short names, if there is one. A refusal leaves the buffer.
 pub(crate) fn change(
     buffer: &mut [u8],
-    merging: bool,
-    other: &[u8],
-    pairing: bool,
-    kind: Kind,
-    from: &[u8],
-    to: &[u8],
-) -> u32
-    requires { Changeable buffer.old merging other.now from.now to.now }
-    ensures { outcome result buffer.new ≡ change_of buffer.old merging other.now pairing kind from.now to.now }
+    other: Option<&[u8]>,
+    pair: Option<Relation>,
+) -> Result<(), Fault>
+    requires { Changeable buffer.old (option_copied other) pair }
+    ensures { outcome result buffer.new ≡ change_of buffer.old (option_copied other.entry) pair.entry }
 {
-    let own = sizes_of(buffer);
-    let more = sizes_if(merging, other);
-    if fit_small(own, more) {
-        return change_small(buffer, merging, other, pairing, kind, from, to);
+    if fit_small(sizes_of(buffer), merged_sizes(other)) {
+        return change_sized::<SMALL_NAMES, SMALL_PAIRS, SMALL_BYTES>(buffer, other, pair);
     }
-    change_large(buffer, merging, other, pairing, kind, from, to)
+    change_sized::<LARGE_NAMES, LARGE_PAIRS, LARGE_BYTES>(buffer, other, pair)
 }

@@ -1,7 +1,6 @@
 // Making and changing records: the operations on record buffers, and the change over the working tables that they share.
 #![tactic(auto)]
 
-mod arrays;
 mod changing;
 mod merging;
 mod operations;

@@ -1,6 +1,6 @@
--- A pair is put in, or nothing is.
-use Rattle.edit.proofs.Changes.{paired_if}
+-- A pair is put in.
+use Rattle.edit.proofs.Changes.{paired_put}
 use Rattle.edit.proofs.changing.put_if.Goals as goal
 
-pub returns-then-pairing : goal.returns-then-pairing
-returns-then-pairing c = paired_if c.args.kind _ _ _ c.args.pairing _ c.if-pairing.true c.put_pair.ensures
+pub returns-in-Some : goal.returns-in-Some
+returns-in-Some c = rw c.in-Some.is (paired_put c.in-Some.p _ _ c.put_pair.ensures)
