@@ -1,13 +1,13 @@
 -- What an output holds beside a text that was written into it, and a turn of each loop that moves or clears bytes.
 use mathlib.Core.Path.{◌≡◌, sym, ◌∙◌}
 use mathlib.Core.List.{[], ◌∷◌, ◌++◌, append_assoc}
-use Prim.Native.Nat.{ℕ, suc, ◌+◌, ◌-◌, ◌≤◌, ◌<◌}
+use Prim.Native.Nat.{ℕ, zero, suc, ◌+◌, ◌-◌, ◌≤◌, ◌<◌}
 use native.Mathlib.Omega.{arith}
 use native.Mathlib.Numerals.{add-one}
-use lib.ListN.{length, take, drop, set, get_or, replicate, length-drop, length-replicate, drop_of_length-le, take-append-drop, replicate-append-replicate, get_or-append}
-use lib.Seq.{drop-drop, length-take-le, get_or-take, get_or-drop, drop-cons, set-append_left, take-set-lt, take-suc-set}
+use lib.ListN.{length, take, drop, set, get_or, length-drop, drop_of_length-le, take-append-drop, get_or-append}
+use lib.Seq.{drop-drop, length-take-le, get_or-take, get_or-drop, drop-cons, take-suc, set-append_left, take-set-lt, take-suc-set}
 use Rattle.model.specs.Bytes.{Bytes, put}
-use Rattle.text.proofs.Put.{put_none, put_copy, put_snoc, drop_put}
+use Rattle.text.proofs.Put.{put_none, put_snoc, drop_put}
 
 module _ (b : Bytes) (at : ℕ) (t : Bytes) (fits : at + length t ≤ length b) where
   -- before the text
@@ -49,23 +49,19 @@ module _ (b : Bytes) (from n : ℕ) (fits : from + n ≤ length b) where
   pub up_none : (to : ℕ) → b ≡ put b (to + n) (drop n (part b from n))
   up_none to = sym (rw (drop_of_length-le (part b from n) {i = n} (rw length_part (omega arith))) (put_none b (to + n)))
 
-  up_step : (to : ℕ) (o : Bytes) (j : ℕ) → from ≤ to → to + n ≤ length b → j < n → o ≡ put b (to + (j + 1)) (drop (j + 1) (part b from n))
-      → set o (to + j) (get_or o (from + j) 0) ≡ put b (to + j) (drop j (part b from n))
-  up_step to o j le h k e =
-      let p = part b from n in
-      let l : length (drop (j + 1) p) ≡ n - (j + 1) = rw (length-drop, length_part) in
-      let g = get_or_put_front b (to + (j + 1)) (drop (j + 1) p) (omega arith) (from + j) (omega arith) in
-      let v : get_or o (from + j) 0 ≡ get_or p j 0 = rw e (g ∙ sym (part_at j k)) in
-      let d : drop j p ≡ get_or p j 0 ∷ drop (j + 1) p = rw add-one (drop-cons p j 0 (rw length_part k)) in
-      let a : to + j + 1 ≡ to + (j + 1) = omega arith in
-      rw (v, e, d) (rw a at (put_cons b (to + j) (drop (j + 1) p) (get_or p j 0) (omega arith)))
-
   -- a turn of the move towards the end
   pub up_turn : (to : ℕ) (o : Bytes) (i : ℕ) → from ≤ to → to + n ≤ length b → 0 < i → i ≤ n → o ≡ put b (to + i) (drop i (part b from n))
       → set o (to + (i - 1)) (get_or o (from + (i - 1)) 0) ≡ put b (to + (i - 1)) (drop (i - 1) (part b from n))
-  up_turn to o i le h p k e =
-      let q : i - 1 + 1 ≡ i = omega arith in
-      up_step to o (i - 1) le h (omega arith) (rw q e)
+  up_turn to o zero le h p k e = absurd (omega arith)
+  up_turn to o (suc j) le h p k e =
+      let p = part b from n in
+      let l : length (drop (suc j) p) ≡ n - suc j = rw (length-drop, length_part) in
+      let g = get_or_put_front b (to + suc j) (drop (suc j) p) (omega arith) (from + j) (omega arith) in
+      let v : get_or o (from + j) 0 ≡ get_or p j 0 = rw e (g ∙ sym (part_at j k)) in
+      let d : drop j p ≡ get_or p j 0 ∷ drop (suc j) p = drop-cons p j 0 (rw length_part k) in
+      let a : to + j + 1 ≡ to + suc j = omega arith in
+      let i : suc j - 1 ≡ j = omega arith in
+      rw (i, v, e, d) (rw a at (put_cons b (to + j) (drop (suc j) p) (get_or p j 0) (omega arith)))
 
   -- a turn of the move towards the start
   pub down_turn : (to : ℕ) (o : Bytes) (i : ℕ) → to ≤ from → i < n → o ≡ put b to (take i (part b from n))
@@ -75,14 +71,7 @@ module _ (b : Bytes) (from n : ℕ) (fits : from + n ≤ length b) where
       let l : length (take i p) ≡ i = length-take-le i p (rw length_part (omega arith)) in
       let g = get_or_put_back b to (take i p) (omega arith) (from + i) (omega arith) in
       let v : get_or o (from + i) 0 ≡ get_or p i 0 = rw e (g ∙ sym (part_at i k)) in
-      rw v (put_copy b to p o i (rw length_part (omega arith)) (rw length_part k) e)
-
--- a turn of the clearing
-pub clear_turn : (b : Bytes) (at n : ℕ) (o : Bytes) (i : ℕ) → at + n ≤ length b → i < n → o ≡ put b at (replicate i 0)
-    → set o (at + i) 0 ≡ put b at (replicate (i + 1) 0)
-clear_turn b at n o i h k e =
-    let l : length (replicate {A = ℕ} i 0) ≡ i = length-replicate i 0 in
-    rw (e, ← replicate-append-replicate {A = ℕ} i 1 0) (rw l at (put_snoc b at (replicate i 0) 0 (omega arith)))
+      rw (v, e, add-one, take-suc p i 0 (rw length_part k)) (rw l at (put_snoc b to (take i p) (get_or p i 0) (omega arith)))
 
 -- bytes moved to where they stand
 pub put_self : (b : Bytes) (at n : ℕ) → at + n ≤ length b → b ≡ put b at (take n (drop at b))
@@ -91,3 +80,8 @@ put_self b at n h =
     let l : length (take n (drop at b)) ≡ n = length_part b at n h in
     let e : drop (at + n) b ≡ drop n (drop at b) = sym (drop-drop n at b) in
     sym (rw (l, e, take-append-drop n (drop at b)) (take-append-drop at b))
+
+-- what each loop of a move learns
+pub ruleset up = (up_none, up_turn)
+
+pub ruleset down = (put_none, down_turn)

@@ -1,14 +1,13 @@
 -- Numbers of four bytes: written and read, read and written again, and read from a place on.
 use mathlib.Core.Path.{◌≡◌, refl, ap, ap₂, ◌∙◌}
 use mathlib.Core.List.{[], ◌∷◌, ◌++◌}
-use Prim.Native.Nat.{ℕ, ◌+◌, ◌/◌, ◌≤◌, ◌<◌}
+use Prim.Native.Nat.{ℕ, ◌+◌, ◌≤◌, ◌<◌}
 use native.Mathlib.Omega.{arith}
 use native.Mathlib.Nat.{add-zero}
 use lib.ListN.{length, take, drop, get_or}
 use lib.Seq.{get_or-drop}
-use Rattle.model.specs.Bytes.{Bytes, put}
-use Rattle.model.specs.Numbers.{le16, le32, number32}
-use Rattle.text.proofs.Put.{put_append}
+use Rattle.model.specs.Bytes.{Bytes}
+use Rattle.model.specs.Numbers.{le32, number32}
 
 pub number32_le32 : (n : ℕ) (r : Bytes) → n < 4294967296 → number32 (le32 n ++ r) 0 ≡ n
 number32_le32 n r h = omega arith
@@ -38,7 +37,3 @@ number32_drop b at = number32_behind b at 0 ∙ ap (number32 b) (add-zero at)
 
 pub number32_drop_4 : (b : Bytes) (at : ℕ) → number32 (drop at b) 4 ≡ number32 b (at + 4)
 number32_drop_4 b at = number32_behind b at 4
-
--- the two halves of a number, written one after the other
-pub put_le32 : (b : Bytes) (at n : ℕ) → at + 3 < length b → put (put b at (le16 n)) (at + 2) (le16 (n / 65536)) ≡ put b at (le32 n)
-put_le32 b at n h = put_append b at (le16 n) (le16 (n / 65536)) (omega arith)

@@ -121,3 +121,6 @@ splice_parts n x y z t h =
     let back : drop (length x + length y) (pad_to n c) ≡ z ++ r = rw a (drop_at (x ++ y) (z ++ r) (length x + length y) (length-append x y)) in
     let k : length x + (length y + length z) - (length x + length y) ≡ length z = omega arith in
     rw (whole, front, back, k, take_at z r (length z) refl)
+
+-- a part moved, towards either side
+pub ruleset slides = (slid_up, slid_down)

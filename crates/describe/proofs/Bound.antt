@@ -6,6 +6,7 @@ use Rattle.std.specs.Prelude.{Some}
 use Prim.Native.Nat.{ℕ, suc, ◌+◌, ◌*◌, ◌≤◌, ◌<◌}
 use native.Mathlib.Omega.{arith}
 use lib.ListN.{length, length-append}
+use Rattle.std.proofs.lemmas.List.Sums.{sum_by-cons}
 use Rattle.model.specs.declared.Kind.{Kind}
 use Rattle.model.specs.declared.Kind.TheVariants.{Subgraph, Translation}
 use Rattle.model.specs.Bytes.{Bytes}
@@ -26,7 +27,7 @@ weight n = 4 + length n
 
 weigh_bodies : (ns : List Bytes) → total weight ns ≡ 4 * length ns + length (bodies ns)
 weigh_bodies [] = refl
-weigh_bodies (n ∷ ns) = omega (arith, weigh_bodies ns, length-append n (bodies ns))
+weigh_bodies (n ∷ ns) = omega (arith, weigh_bodies ns, length-append n (bodies ns), sum_by-cons weight n ns)
 
 -- ------------------------------------------------------------------ a shortest path comes to no name twice
 
@@ -36,7 +37,8 @@ nexts ss = map (λ (s : Step). s.next) ss
 weigh_path : (a : Bytes) (ss : List Step) → total weight (a ∷ nexts ss) ≡ 4 + 4 * length ss + length (path_bodies a ss)
 unfolding path_bodies
 weigh_path a [] = omega arith
-weigh_path a (s ∷ ss) = omega (arith, weigh_path s.next ss, length-append a (path_bodies s.next ss))
+weigh_path a (s ∷ ss) =
+    omega (arith, weigh_path s.next ss, length-append a (path_bodies s.next ss), sum_by-cons weight a (s.next ∷ nexts ss))
 
 module _ (R : Relation) (b : Bytes) where
   -- what is left of a path after it comes to x

@@ -22,20 +22,10 @@ module _ {A : Type 0} (x : A) where
 
 module _ {A B : Type 0} (f : A → B) where
   pub member_map : (xs : List A) (x : A) → Memᴰ x xs → Memᴰ (f x) (map f xs)
-  member_map [] x m = absurd (mathlib.Core.List.Memᴰ.not-nil m)
-  member_map (y ∷ ys) x m =
-      ⊎_elim
-      (λ (e : x ≡ y). mathlib.Core.List.Memᴰ.head (ap f e))
-      (λ (n : Memᴰ x ys). mathlib.Core.List.Memᴰ.tail (member_map ys x n))
-      (mathlib.Core.List.Memᴰ.cases_cons m)
+  member_map xs x m = mathlib.Core.List.Memᴰ.map f m
 
   pub map_member : (xs : List A) (y : B) → Memᴰ y (map f xs) → (x : A) × Memᴰ x xs × (y ≡ f x)
-  map_member [] y m = absurd (mathlib.Core.List.Memᴰ.not-nil m)
-  map_member (x ∷ xs) y m =
-      ⊎_elim
-      (λ (e : y ≡ f x). (x, mathlib.Core.List.Memᴰ.head refl, e))
-      (λ (n : Memᴰ y (map f xs)). let r = map_member xs y n in (r.0, mathlib.Core.List.Memᴰ.tail r.1, r.2))
-      (mathlib.Core.List.Memᴰ.cases_cons m)
+  map_member xs y m = let r = mathlib.Core.List.Memᴰ.of_map f xs m in (r.0, r.1, sym r.2)
 
 module _ {A : Type 0} (d : A) where
   pub get_or_member : (xs : List A) (i : ℕ) → i < length xs → Memᴰ (get_or xs i d) xs

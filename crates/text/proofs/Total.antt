@@ -2,9 +2,12 @@
 use mathlib.Core.Path.{◌≡◌, refl, sym, ap, ◌∙◌}
 use mathlib.Core.Logic.{◌⊎◌, inl, inr, ⊎_elim}
 use mathlib.Core.List.Memᴰ
-use mathlib.Core.List.{List, [], ◌∷◌, ◌++◌, Memᴰ}
+use mathlib.Core.List.{List, [], ◌∷◌, Memᴰ}
 use Prim.Native.Nat.{ℕ, ◌+◌, ◌≤◌}
 use native.Mathlib.Omega.{arith}
+pub use Rattle.std.specs.List.{sum_by as total}
+pub use Rattle.std.proofs.lemmas.List.Sums.{sum_by-append as total_append}
+use Rattle.std.proofs.lemmas.List.Sums.{sum_by-cons}
 use lib.ListN.{length, length-append}
 use Rattle.std.specs.declared.cmp.Ordering.{Ordering}
 use Rattle.std.specs.declared.cmp.Ordering.TheVariants.{Less, Equal, Greater}
@@ -14,34 +17,30 @@ use Rattle.model.specs.Statements.{Ascending}
 use Rattle.text.proofs.Order.{StrictOrder}
 use Rattle.text.proofs.Ascending.{ascending_tail, ascending_below, less_irrefl}
 
-abbrev pub total : {A : Type 0} → (A → ℕ) → List A → ℕ
-total f [] = 0
-total f (x ∷ xs) = f x + total f xs
-
 -- a count, and a length
 pub total_count : {A : Type 0} (xs : List A) → total (λ (x : A). 1) xs ≡ length xs
 total_count [] = refl
-total_count (x ∷ xs) = omega (arith, total_count xs)
+total_count {A} (x ∷ xs) = omega (arith, total_count xs, sum_by-cons (λ (y : A). 1) x xs)
 
 pub total_bodies : (ns : List Bytes) → total length ns ≡ length (bodies ns)
 total_bodies [] = refl
-total_bodies (n ∷ ns) = omega (arith, total_bodies ns, length-append n (bodies ns))
+total_bodies (n ∷ ns) = omega (arith, total_bodies ns, length-append n (bodies ns), sum_by-cons length n ns)
 
 module _ {A : Type 0} (cmp : A → A → Ordering) (f : A → ℕ) where
   pub total_insert : (x : A) (ys : List A) → total f (insert cmp x ys) ≤ f x + total f ys
   unfolding insert
-  total_insert x [] = omega arith
+  total_insert x [] = omega (arith, sum_by-cons f x [])
   total_insert x (y ∷ ys) = go (cmp x y) (total_insert x ys)
     where
       go : (o : Ordering) → total f (insert cmp x ys) ≤ f x + total f ys → total f (by_order o (x ∷ y ∷ ys) (y ∷ ys) (y ∷ insert cmp x ys)) ≤ f x + total f (y ∷ ys)
-      go Less h = omega arith
+      go Less h = omega (arith, sum_by-cons f x (y ∷ ys))
       go Equal h = omega arith
-      go Greater h = omega arith
+      go Greater h = omega (arith, sum_by-cons f y ys, sum_by-cons f y (insert cmp x ys))
 
   pub total_insert_all : (xs ys : List A) → total f (insert_all cmp xs ys) ≤ total f xs + total f ys
   unfolding insert_all
   total_insert_all [] ys = omega arith
-  total_insert_all (x ∷ xs) ys = omega (arith, total_insert_all xs (insert cmp x ys), total_insert x ys)
+  total_insert_all (x ∷ xs) ys = omega (arith, total_insert_all xs (insert cmp x ys), total_insert x ys, sum_by-cons f x xs)
 
 -- ------------------------------------------------------------------ a part of the members
 
@@ -56,10 +55,6 @@ ascending_once {A} {cmp} ord (x ∷ xs) a =
     (λ m. less_irrefl ord x (ascending_below ord x xs a x m), ascending_once ord xs (ascending_tail cmp x xs a))
 
 module _ {A : Type 0} (f : A → ℕ) where
-  pub total_append : (xs ys : List A) → total f (xs ++ ys) ≡ total f xs + total f ys
-  total_append [] ys = omega arith
-  total_append (x ∷ xs) ys = omega (arith, total_append xs ys)
-
   -- all but one x, and every other member
   record Without (x : A) (all : List A) : Type 0 where
     rest : List A
@@ -73,14 +68,14 @@ module _ {A : Type 0} (f : A → ℕ) where
       go : (Memᴰ x zs → Without x zs) → (x ≡ z) ⊎ Memᴰ x zs → Without x (z ∷ zs)
       go further (inl e) = record {
         rest = zs;
-        sum = omega (arith, ap f e);
+        sum = omega (arith, ap f e, sum_by-cons f z zs);
         keeps = λ y d w. ⊎_elim (λ (q : y ≡ z). absurd (d (q ∙ sym e))) (λ (q : Memᴰ y zs). q) (Memᴰ.cases_cons w);
       }
       go further (inr m) =
           let r = further m in
           record {
             rest = z ∷ r.rest;
-            sum = omega (arith, r.sum);
+            sum = omega (arith, r.sum, sum_by-cons f z zs, sum_by-cons f z r.rest);
             keeps = λ y d w. ⊎_elim (λ (q : y ≡ z). Memᴰ.head q) (λ (q : Memᴰ y zs). Memᴰ.tail (r.keeps y d q)) (Memᴰ.cases_cons w);
           }
 
@@ -90,4 +85,4 @@ module _ {A : Type 0} (f : A → ℕ) where
       let r = remove x all (h x (Memᴰ.head refl)) in
       let l : total f xs ≤ total f r.rest =
       total_part xs r.rest o.1 (λ y m. r.keeps y (λ e. o.0 (Memᴰ.cast (sym e) m)) (h y (Memᴰ.tail m))) in
-      omega (arith, r.sum)
+      omega (arith, r.sum, sum_by-cons f x xs)
