@@ -5,14 +5,16 @@ use Prim.Native.Nat.{ℕ, ◌+◌, ◌*◌, ◌≤◌, ◌<◌}
 use native.Mathlib.Omega.{arith}
 use lib.ListN.{length}
 use Rattle.model.specs.declared.Kind.{Kind}
+use Rattle.model.specs.declared.Kind.TheVariants.{Subgraph, Translation}
 use Rattle.model.specs.declared.holdings.Part.{Part}
 use Rattle.model.specs.Bytes.{Bytes}
 use Rattle.model.specs.Record.{names}
 use Rattle.model.specs.Layout.{pair_length, entry_length, entry_at, name_count, own_number, pair_count, table_at, from_place, to_place, shown}
 use Rattle.model.specs.Opening.{check_of, check_of_both}
 use Rattle.model.specs.Questions.{mapped, part_of, pair_parts, pairs_of}
-use Rattle.record.specs.Reader.{place_numbered, IsPart}
-use Rattle.record.specs.Holds.{HoldsRecord}
+use Rattle.record.specs.Reader.{place_numbered, counted_pairs, IsPart}
+use Rattle.record.specs.declared.layout.Head.{Head}
+use Rattle.record.specs.Holds.{HoldsRecord, IsReader}
 use Rattle.record.proofs.Own.{own_shown, number_placed}
 use Rattle.record.proofs.Opening.{IsRecord, record_opened, two_opened}
 use Rattle.record.proofs.Access.{record_count, record_pair_count, pair_within}
@@ -35,13 +37,18 @@ records_held b c z = let r = two_opened b c z in (holds b r.0, holds c r.1)
 part_same : (b : Bytes) (i : ℕ) (p : Part) → IsPart b i p → p ≡ entry_part b i
 part_same b i p q = rw (← q.0, ← q.1)
 
+module _ (b : Bytes) (h : Head) (reader : IsReader b h) where
+  pub names_counted : h.names ≡ length (names (shown b))
+  names_counted = reader.head.names.0 ∙ sym (record_count b (shown b) reader.holds.decoded)
+
+  pub pairs_head : (k : Kind) → counted_pairs h k ≡ pair_count k b
+  pairs_head Subgraph = reader.head.subgraph.0
+  pairs_head Translation = reader.head.translation.0
+
+  pub pairs_counted : (k : Kind) → counted_pairs h k ≡ length (pairs_of k (shown b))
+  pairs_counted k = pairs_head k ∙ sym (record_pair_count b (shown b) reader.holds.decoded k)
+
 module _ (b : Bytes) (r : HoldsRecord b) where
-  pub names_counted : name_count b ≡ length (names (shown b))
-  names_counted = sym (record_count b (shown b) r.decoded)
-
-  pub pairs_counted : (k : Kind) → pair_count k b ≡ length (pairs_of k (shown b))
-  pairs_counted k = sym (record_pair_count b (shown b) r.decoded k)
-
   pub own_part_absent : place_numbered (own_number b) ≡ None → None ≡ mapped (part_of (shown b)) (shown b).name
   own_part_absent e = rw (own_shown b, e)
 

@@ -1,5 +1,6 @@
 -- What a buffer counts, and where it has a name.
 use Rattle.std.specs.Prelude.{◌≡◌, ℕ, zero, suc, ◌+◌, ◌<◌, Option, Some, None}
+use Rattle.model.specs.declared.Kind.{Kind}
 use Rattle.model.specs.declared.Kind.TheVariants.{Subgraph, Translation}
 use Rattle.model.specs.Bytes.{Bytes}
 use Rattle.model.specs.Layout.{name_count, own_number, pair_count, body_start, body_length, bodies_at}
@@ -14,6 +15,11 @@ place_numbered (suc i) = Some i
 -- n is a count m of the buffer
 abbrev pub IsCount : ℕ → ℕ → Type 0
 IsCount m n = (n ≡ m) × (n < 65536)
+
+-- how many pairs of a kind are counted
+abbrev pub counted_pairs : Head → Kind → ℕ
+counted_pairs h Subgraph = h.subgraph
+counted_pairs h Translation = h.translation
 
 -- h has the four counts of b
 pub record IsHead (b : Bytes) (h : Head) : Type 0 where

@@ -4,7 +4,7 @@ ghost use Rattle.std.specs.Prelude.{◌≡◌, ◌+◌, ◌*◌, ◌≤◌, ◌<
 ghost use Rattle.model.specs.declared.Kind.TheVariants.{Subgraph, Translation};
 ghost use Rattle.model.specs.Layout.{counts_length, entry_length, pair_length, entry_at, name_count, own_number, pair_count, body_start, body_length, table_at, bodies_at, from_place, to_place, name_at, shown};
 ghost use Rattle.std.specs.Option.{option_copied};
-ghost use Rattle.record.specs.Reader.{place_numbered, IsHead, IsPart};
+ghost use Rattle.record.specs.Reader.{place_numbered, counted_pairs, IsHead, IsPart};
 
 use crate::offsets::{PAIR_LENGTH, bodies_after, entry_at};
 use model::{Kind, Part};
@@ -18,6 +18,18 @@ pub struct Head {
     pub own: usize,
     pub subgraph: usize,
     pub translation: usize,
+}
+
+impl Head {
+    // How many pairs of a kind there are.
+    pub fn pairs(self, kind: Kind) -> usize
+        ensures { result ≡ counted_pairs self kind }
+    {
+        match kind {
+            Kind::Subgraph => self.subgraph,
+            Kind::Translation => self.translation,
+        }
+    }
 }
 
 // Where the body at place i begins, counted from the first body.
@@ -49,13 +61,14 @@ pub fn head_at(b: &[u8]) -> Head
     }
 }
 
-// Where the body of the name at place i stands.
-pub fn part_at(b: &[u8], i: usize) -> Part
-    requires { entry_at i + entry_length ≤ length b.now }
+// Where the body of the name at place i stands, in a buffer that counts so.
+pub fn part_of(b: &[u8], head: Head, i: usize) -> Part
+    requires { IsHead b.now head × (entry_at i + entry_length ≤ length b.now) }
     ensures { IsPart b.now i result }
 {
+    let bodies = bodies_after(head.names, head.subgraph + head.translation);
     Part {
-        start: bodies_at(b) + body_start(b, i),
+        start: bodies + body_start(b, i),
         size: body_length(b, i),
     }
 }
@@ -101,7 +114,7 @@ pub fn name_at(b: &[u8], i: usize) -> &[u8]
     requires { entry_at i + entry_length ≤ length b.now }
     ensures { result.now ≡ name_at b.now i }
 {
-    let part = part_at(b, i);
+    let part = part_of(b, head_at(b), i);
     text::part(b, part.start, part.size)
 }
 

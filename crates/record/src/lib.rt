@@ -13,7 +13,7 @@ mod writing;
 
 pub use layout::{
     Head, bodies_at, body_length, body_start, head_at, name_at, name_count, name_in, own_name,
-    own_place, pair_at, pair_count, pair_from, pair_to, part_at, table_at,
+    own_place, pair_at, pair_count, pair_from, pair_to, part_of, table_at,
 };
 pub use offsets::{
     MAX_BODIES_BYTES, MAX_NAME_BYTES, MAX_NAMES, MAX_PAIRS, PAIR_LENGTH, RECORD_LENGTH,

@@ -1,4 +1,4 @@
-// A record: a buffer that was tested, seen as the graph name that it means.
+// A record: a buffer that was tested, with its four counts, seen as the graph name that it means.
 ghost use Rattle.std.specs.Prelude.{◌≡◌, length, slice_get};
 ghost use Rattle.std.specs.Option.{option_copied};
 ghost use Rattle.model.specs.Record.{names};
@@ -6,27 +6,28 @@ ghost use Rattle.model.specs.Opening.{opened, record_in, two_records};
 ghost use Rattle.model.specs.Questions.{mapped, part_of, pair_parts, pairs_of};
 
 use crate::layout;
-use crate::layout::part_at;
+use crate::layout::{Head, head_at, part_of};
 use crate::validity::{check, check_both};
 use model::{Fault, Kind, PairParts, Part};
 use std::marker::Model;
 
-// A buffer that is a record.
+// A buffer that is a record, and what it counts. A rule of the project has the record's reader keep both, above functions on slice and numbers.
 #[derive(Drop)]
 pub struct Record<'a> {
     bytes: &'a [u8],
+    head: Head,
 }
 
 impl<'a> Model for Record<'a> {
     ghost use Rattle.model.specs.Record.{GraphName};
     ghost use Rattle.model.specs.Layout.{shown};
-    ghost use Rattle.record.specs.Holds.{HoldsRecord};
+    ghost use Rattle.record.specs.Holds.{IsReader};
 
     ghost Value = { GraphName };
 
     ghost view = { λ r. shown r.bytes.now };
 
-    ghost invariant = { λ r. HoldsRecord r.bytes.now };
+    ghost invariant = { λ r. IsReader r.bytes.now r.head };
 }
 
 impl<'a> Record<'a> {
@@ -38,7 +39,10 @@ impl<'a> Record<'a> {
         ensures { result ≡ opened (record_in b.now) }
     {
         check(b)?;
-        Ok(Record { bytes: b })
+        Ok(Record {
+            bytes: b,
+            head: head_at(b),
+        })
     }
 
     // The records that two buffers are: refused for the length of either, or else for the contents of either.
@@ -46,7 +50,16 @@ impl<'a> Record<'a> {
         ensures { result ≡ opened (two_records b.now c.now) }
     {
         check_both(b, c)?;
-        Ok((Record { bytes: b }, Record { bytes: c }))
+        Ok((
+            Record {
+                bytes: b,
+                head: head_at(b),
+            },
+            Record {
+                bytes: c,
+                head: head_at(c),
+            },
+        ))
     }
 
     // The buffer.
@@ -58,19 +71,17 @@ impl<'a> Record<'a> {
     }
 
     // How many names there are.
-    #[tactic(auto, using(crate::proofs::Meaning::names_counted))]
     pub fn name_count(&self) -> usize
         ensures { result ≡ length (names self.now) }
     {
-        layout::name_count(self.bytes)
+        self.head.names
     }
 
     // How many pairs of a kind there are.
-    #[tactic(auto, using(crate::proofs::Meaning::pairs_counted))]
     pub fn pair_count(&self, kind: Kind) -> usize
         ensures { result ≡ length (pairs_of kind self.now) }
     {
-        layout::pair_count(self.bytes, kind)
+        self.head.pairs(kind)
     }
 
     // The own name, if there is one.
@@ -86,7 +97,7 @@ impl<'a> Record<'a> {
         ensures { result ≡ mapped (part_of self.now) self.now.name }
     {
         let place = layout::own_place(self.bytes)?;
-        Some(part_at(self.bytes, place))
+        Some(part_of(self.bytes, self.head, place))
     }
 
     // Where the name at a place stands, if there are as many.
@@ -94,10 +105,10 @@ impl<'a> Record<'a> {
     pub fn part(&self, i: usize) -> Option<Part>
         ensures { result ≡ mapped (part_of self.now) (slice_get (names self.now) i) }
     {
-        if layout::name_count(self.bytes) <= i {
+        if self.head.names <= i {
             return None;
         }
-        Some(part_at(self.bytes, i))
+        Some(part_of(self.bytes, self.head, i))
     }
 
     // Where the names of the pair of a kind at a place stand, if there are as many.
@@ -106,13 +117,14 @@ impl<'a> Record<'a> {
         ensures { result ≡ mapped (pair_parts self.now) (slice_get (pairs_of kind self.now) i) }
     {
         let b = self.bytes;
-        if layout::pair_count(b, kind) <= i {
+        let head = self.head;
+        if head.pairs(kind) <= i {
             return None;
         }
         let at = layout::pair_at(b, kind, i);
         Some(PairParts {
-            from: part_at(b, layout::pair_from(b, at)),
-            to: part_at(b, layout::pair_to(b, at)),
+            from: part_of(b, head, layout::pair_from(b, at)),
+            to: part_of(b, head, layout::pair_to(b, at)),
         })
     }
 }
