@@ -21,4 +21,3 @@ pub mod Rows
 pub mod StepTables
 pub mod Reading
 pub mod Spanning
-pub mod Parts

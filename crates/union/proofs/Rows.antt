@@ -1,154 +1,104 @@
 -- The pairs of a record as a row of steps, and two records' rows as one table.
 use mathlib.Core.Path.{◌≡◌, sym, ap, ◌∙◌}
 use mathlib.Core.List.{List}
-use Rattle.std.specs.Prelude.{Some}
 use Prim.Native.Nat.{ℕ, ◌+◌, ◌*◌, ◌/◌, ◌%◌, ◌≤◌, ◌<◌}
 use native.Mathlib.Omega.{arith}
-use lib.ListN.{length, get_or, take, drop}
-use lib.Seq.{length-take-le}
+use lib.ListN.{length, get_or}
 use Rattle.model.specs.declared.Kind.{Kind}
 use Rattle.model.specs.declared.Kind.TheVariants.{Subgraph, Translation}
 use Rattle.model.specs.Bytes.{Bytes}
-use Rattle.model.specs.Record.{Pair, GraphName, compare_pairs}
-use Rattle.model.specs.Layout.{record_length, pair_length, name_count, pair_count, table_at, decode}
+use Rattle.model.specs.Record.{Pair, compare_pairs}
+use Rattle.model.specs.Layout.{record_length, pair_length, name_count, pair_count, table_at, shown}
 use Rattle.model.specs.Questions.{pairs_of}
 use Rattle.model.specs.Path.{kind_number}
 use Rattle.model.specs.Statements.{Ascending}
-use Rattle.record.proofs.Laws.{decoded, decode_held}
+use Rattle.record.specs.Holds.{HoldsRecord}
+use Rattle.record.proofs.Laws.{decoded}
 use Rattle.record.proofs.Access.{record_pair, record_pair_count, pair_within}
 use Rattle.search.specs.Steps.{max_nodes, max_moves}
-use Rattle.search.specs.Table.{Written, Merged, Mergeable}
+use Rattle.search.specs.Table.{Merged, Mergeable}
 use Rattle.search.specs.Names.{InOrder, no_pair, Row, StepTable}
 use Rattle.search.specs.Related.{of_kind}
-use Rattle.search.proofs.Filling.{first_long, second_long, first_row, second_row}
 use Rattle.search.proofs.StepTables.{row_table, tables_mergeable, merged_table}
-use Rattle.union.specs.Steps.{from_at, to_at, step_at, Rowable, Numbered, BothNumbered, Records, pairs_of_kind, Gatherable, Gathered, by_kind}
+use Rattle.union.specs.Names.{NumberedTo}
+use Rattle.union.specs.Steps.{from_at, to_at, Rowable, IsRow, BothNumbered, pairs_of_kind, Gatherable, Gathered, by_kind}
 
 -- ------------------------------------------------------------------ one record
 
-module _ (b : Bytes) (g : GraphName) (d : decode b ≡ Some g) (numbers : List ℕ) (base size : ℕ) (name : ℕ → Bytes) (few : size ≤ max_nodes) (n : Numbered b numbers base size name) (k : Kind) where
-  pub rowable : Rowable b k numbers base
+kind_small : (k : Kind) → kind_number k < 2
+kind_small Subgraph = omega arith
+kind_small Translation = omega arith
+
+module _ (b : Bytes) (r : HoldsRecord b) (numbers : List ℕ) (size : ℕ) (name : ℕ → Bytes) (few : size ≤ max_nodes) (room : name_count b ≤ length numbers)
+    (n : NumberedTo (name_count b) b numbers size name) (k : Kind) where
+  pub rowable : Rowable b k numbers
   rowable = record {
-    long = (decode_held b g d).long;
+    long = r.long;
     within = within k;
-    places = pair_within b g d k;
-    room = n.room;
-    small = λ p l. omega (arith, (n.named p l).0);
+    places = pair_within b (shown b) r.decoded k;
+    room = room;
+    small = λ p l. omega (arith, (n p l).0);
   }
     where
       within : (k : Kind) → table_at k b + pair_length * pair_count k b ≤ record_length
-      within Subgraph = let h = decode_held b g d in omega (arith, h.count, h.subgraphs, h.translations)
-      within Translation = let h = decode_held b g d in omega (arith, h.count, h.subgraphs, h.translations)
+      within Subgraph = omega (arith, r.count, r.subgraphs, r.translations)
+      within Translation = omega (arith, r.count, r.subgraphs, r.translations)
 
-  ascending : (k : Kind) → Ascending compare_pairs (pairs_of k g)
-  ascending Subgraph = (decoded b g d).0.subgraphs
-  ascending Translation = (decoded b g d).0.translations
-
-  kind_small : (k : Kind) → kind_number k < 2
-  kind_small Subgraph = omega arith
-  kind_small Translation = omega arith
+  ascending : (k : Kind) → Ascending compare_pairs (pairs_of k (shown b))
+  ascending Subgraph = (decoded b (shown b) r.decoded).0.subgraphs
+  ascending Translation = (decoded b (shown b) r.decoded).0.translations
 
   -- its pairs of a kind, in the order of their names
-  row_steps : InOrder name size → (row : List ℕ) → length row ≡ pair_count k b → ((p : ℕ) → p < pair_count k b → get_or row p 0 ≡ step_at b k numbers base p)
-      → StepTable row size name (of_kind k (pairs_of k g))
-  row_steps order row long is = row_table k size name (pairs_of k g) row few order made (ascending k)
+  pub row_steps : InOrder name size → (row : List ℕ) → IsRow b k numbers row → StepTable row size name (of_kind k (pairs_of k (shown b)))
+  row_steps order row is = row_table k size name (pairs_of k (shown b)) row few order made (ascending k)
     where
-      made : Row k size name (pairs_of k g) row
+      made : Row k size name (pairs_of k (shown b)) row
       made = record {
-        long = long ∙ sym (record_pair_count b g d k);
+        long = is.long ∙ sym (record_pair_count b (shown b) r.decoded k);
         kinds = λ p l.
-            let i : p < pair_count k b = omega arith in
-            let w = pair_within b g d k p i in
-            omega (arith, is p i, (n.named _ w.0).0, (n.named _ w.1).0, kind_small k);
+            let i : p < pair_count k b = omega (arith, is.long) in
+            let w = pair_within b (shown b) r.decoded k p i in
+            omega (arith, is.steps p i, (n _ w.0).0, (n _ w.1).0, kind_small k);
         starts = λ p l.
-            let i : p < pair_count k b = omega arith in
-            let w = pair_within b g d k p i in
-            let f = n.named _ w.0 in
-            let e : get_or row p 0 / max_moves ≡ get_or numbers (base + from_at b k p) 0 = omega (arith, is p i, f.0, (n.named _ w.1).0, kind_small k) in
-            rw e (f.0, f.1 ∙ sym (ap (λ (q : Pair). q.from) (record_pair b g d k p no_pair i)));
+            let i : p < pair_count k b = omega (arith, is.long) in
+            let w = pair_within b (shown b) r.decoded k p i in
+            let f = n _ w.0 in
+            let e : get_or row p 0 / max_moves ≡ get_or numbers (from_at b k p) 0 = omega (arith, is.steps p i, f.0, (n _ w.1).0, kind_small k) in
+            rw e (f.0, f.1 ∙ sym (ap (λ (q : Pair). q.from) (record_pair b (shown b) r.decoded k p no_pair i)));
         ends = λ p l.
-            let i : p < pair_count k b = omega arith in
-            let w = pair_within b g d k p i in
-            let f = n.named _ w.1 in
-            let e : get_or row p 0 % max_nodes ≡ get_or numbers (base + to_at b k p) 0 = omega (arith, is p i, f.0, (n.named _ w.0).0, kind_small k) in
-            rw e (f.0, f.1 ∙ sym (ap (λ (q : Pair). q.to) (record_pair b g d k p no_pair i)));
+            let i : p < pair_count k b = omega (arith, is.long) in
+            let w = pair_within b (shown b) r.decoded k p i in
+            let f = n _ w.1 in
+            let e : get_or row p 0 % max_nodes ≡ get_or numbers (to_at b k p) 0 = omega (arith, is.steps p i, f.0, (n _ w.0).0, kind_small k) in
+            rw e (f.0, f.1 ∙ sym (ap (λ (q : Pair). q.to) (record_pair b (shown b) r.decoded k p no_pair i)));
       }
 
 -- ------------------------------------------------------------------ the pairs of one kind of both
 
-module _ (b c : Bytes) (numbers : List ℕ) (k : Kind) (rows₀ rows₁ rows₂ : List ℕ)
-    (one : Written rows₀ rows₁ 0 (pair_count k b) (step_at b k numbers 0)) (two : Written rows₁ rows₂ (pair_count k b) (pair_count k c) (step_at c k numbers (name_count b)))
-    (room : pairs_of_kind k b c ≤ length rows₀) where
-  abbrev first : List ℕ
-  first = take (pair_count k b) (take (pairs_of_kind k b c) rows₂)
+module _ (b : Bytes) (first : List ℕ) (c : Bytes) (second : List ℕ) (k : Kind) (rows out : List ℕ) (ready : Gatherable b first c second (pairs_of_kind k b c) rows out) where
+  pub first_rowable : Rowable b k first
+  first_rowable = let n = ready.numbered in rowable b ready.held.0 first ready.size ready.name n.few n.first_room n.of_first k
 
-  abbrev second : List ℕ
-  second = drop (pair_count k b) (take (pairs_of_kind k b c) rows₂)
+  pub second_rowable : Rowable c k second
+  second_rowable = let n = ready.numbered in rowable c ready.held.1 second ready.size ready.name n.few n.second_room n.of_second k
 
-  lengths : (length first ≡ pair_count k b) × (length second ≡ pair_count k c)
-  lengths = (
-    first_long rows₀ rows₁ rows₂ (pair_count k b) (pair_count k c) (step_at b k numbers 0) (step_at c k numbers (name_count b)) one two room,
-    second_long rows₀ rows₁ rows₂ (pair_count k b) (pair_count k c) (step_at b k numbers 0) (step_at c k numbers (name_count b)) one two room,
-  )
+  module _ (row row' : List ℕ) (one : IsRow b k first row) (two : IsRow c k second row') where
+    first_table : (size : ℕ) (name : ℕ → Bytes) → BothNumbered b first c second size name → StepTable row size name (of_kind k (pairs_of k (shown b)))
+    first_table size name n = row_steps b ready.held.0 first size name n.few n.first_room n.of_first k n.order row one
 
-  module _ (g h : GraphName) (d : decode b ≡ Some g) (e : decode c ≡ Some h) (size : ℕ) (name : ℕ → Bytes) (n : BothNumbered b c numbers size name) where
-    first_table : StepTable first size name (of_kind k (pairs_of k g))
-    first_table = row_steps b g d numbers 0 size name n.few n.first k n.order first lengths.0
-        (first_row rows₀ rows₁ rows₂ (pair_count k b) (pair_count k c) (step_at b k numbers 0) (step_at c k numbers (name_count b)) one two room)
+    second_table : (size : ℕ) (name : ℕ → Bytes) → BothNumbered b first c second size name → StepTable row' size name (of_kind k (pairs_of k (shown c)))
+    second_table size name n = row_steps c ready.held.1 second size name n.few n.second_room n.of_second k n.order row' two
 
-    second_table : StepTable second size name (of_kind k (pairs_of k h))
-    second_table = row_steps c h e numbers (name_count b) size name n.few n.second k n.order second lengths.1
-        (second_row rows₀ rows₁ rows₂ (pair_count k b) (pair_count k c) (step_at b k numbers 0) (step_at c k numbers (name_count b)) one two room)
+    pub rows_mergeable : Mergeable row row' out
+    rows_mergeable =
+        tables_mergeable row row' ready.size ready.name _ _ (first_table ready.size ready.name ready.numbered) (second_table ready.size ready.name ready.numbered)
+        out (omega (arith, one.long, two.long, ready.out_room))
 
-  pub kind_mergeable : (out : List ℕ) → Gatherable b c numbers (pairs_of_kind k b c) rows₀ out → Mergeable first second out
-  kind_mergeable out r =
-      let t = r.records in
-      tables_mergeable first second r.size r.name (of_kind k (pairs_of k t.g)) (of_kind k (pairs_of k t.h))
-      (first_table t.g t.h t.first t.second r.size r.name r.numbered) (second_table t.g t.h t.first t.second r.size r.name r.numbered)
-      out (omega (arith, lengths, r.out_room))
-
-  pub kind_gathered : (out : List ℕ) (r : ℕ) → pairs_of_kind k b c ≤ length out → Merged first second out r → Gathered b c numbers (by_kind k) (pairs_of_kind k b c) out r
-  kind_gathered out r fits m = record {
-    count = omega (arith, m.count, lengths);
-    steps = λ g h d e size name n.
-        merged_table first second size name (of_kind k (pairs_of k g)) (of_kind k (pairs_of k h)) (first_table g h d e size name n) (second_table g h d e size name n)
-        out (omega (arith, lengths)) r m;
-  }
-
--- with the counts as the code has read them
-module _ (b c : Bytes) (numbers : List ℕ) (k : Kind) (rows₀ rows₁ rows₂ out : List ℕ) (s t m : ℕ) (ready : Gatherable b c numbers (pairs_of_kind k b c) rows₀ out)
-    (es : s ≡ pair_count k b) (et : t ≡ pair_count k c) (em : m ≡ name_count b)
-    (one : Written rows₀ rows₁ 0 (pair_count k b) (step_at b k numbers 0)) (two : Written rows₁ rows₂ s (pair_count k c) (step_at c k numbers m)) where
-  behind : Written rows₁ rows₂ (pair_count k b) (pair_count k c) (step_at c k numbers (name_count b))
-  behind = rw (es, em) at two
-
-  pub rows_fit : s + t ≤ length rows₂
-  rows_fit = omega (arith, es, et, ready.rows_room, one.long, two.long)
-
-  pub rows_mergeable : (s ≤ length (take (s + t) rows₂)) × Mergeable (take s (take (s + t) rows₂)) (drop s (take (s + t) rows₂)) out
-  rows_mergeable = (
-    omega (arith, length-take-le (s + t) rows₂ rows_fit),
-    rw (es, et) (kind_mergeable b c numbers k rows₀ rows₁ rows₂ one behind ready.rows_room out ready),
-  )
-
-  pub rows_gathered : (out' : List ℕ) (r : ℕ) → length out' ≡ length out → Merged (take s (take (s + t) rows₂)) (drop s (take (s + t) rows₂)) out' r
-      → Gathered b c numbers (by_kind k) (pairs_of_kind k b c) out' r
-  rows_gathered out' r long w =
-      kind_gathered b c numbers k rows₀ rows₁ rows₂ one behind ready.rows_room out' r (omega (arith, ready.out_room)) (rw (es, et) at w)
-
-pub record_sizes : (b c : Bytes) → Records b c → (length b ≡ record_length) × (length c ≡ record_length)
-record_sizes b c t = ((decode_held b t.g t.first).long, (decode_held c t.h t.second).long)
-
-module _ (b c : Bytes) (numbers : List ℕ) (k : Kind) (rows out : List ℕ) (ready : Gatherable b c numbers (pairs_of_kind k b c) rows out) where
-  pub first_rowable : Rowable b k numbers 0 × (0 + pair_count k b ≤ length rows)
-  first_rowable =
-      let t = ready.records in
-      let n = ready.numbered in
-      (rowable b t.g t.first numbers 0 ready.size ready.name n.few n.first k, omega (arith, ready.rows_room))
-
-  pub second_rowable : (m s : ℕ) (rows₁ : List ℕ) → m ≡ name_count b → s ≡ pair_count k b → length rows₁ ≡ length rows
-      → Rowable c k numbers m × (s + pair_count k c ≤ length rows₁)
-  second_rowable m s rows₁ em es long =
-      let t = ready.records in
-      let n = ready.numbered in
-      (rw em (rowable c t.h t.second numbers (name_count b) ready.size ready.name n.few n.second k), omega (arith, ready.rows_room))
+    pub rows_gathered : (out' : List ℕ) (r : ℕ) → length out' ≡ length out → Merged row row' out' r → Gathered b first c second (by_kind k) (pairs_of_kind k b c) out' r
+    rows_gathered out' r long m = record {
+      count = omega (arith, m.count, one.long, two.long);
+      fits = omega (arith, m.count, one.long, two.long, ready.out_room);
+      steps = λ size name n.
+          merged_table row row' size name (of_kind k (pairs_of k (shown b))) (of_kind k (pairs_of k (shown c))) (first_table size name n) (second_table size name n)
+          out' (omega (arith, one.long, two.long, ready.out_room)) r m;
+    }

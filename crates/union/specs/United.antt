@@ -1,26 +1,42 @@
 -- Two records as nodes and steps.
-use Rattle.std.specs.Prelude.{Bool, List, ℕ, ◌+◌, ◌≤◌, length, take}
+use Rattle.std.specs.Prelude.{◌≡◌, List, [], ℕ, ◌+◌, ◌≤◌, ◌<◌, length, get_or}
 use Rattle.model.specs.Bytes.{Bytes}
-use Rattle.model.specs.Layout.{name_count}
+use Rattle.model.specs.Record.{GraphName, names}
+use Rattle.search.specs.declared.names.Span.{Span}
+use Rattle.search.specs.declared.names.Names.{Names}
 use Rattle.search.specs.Spans.{name_by}
-use Rattle.union.specs.declared.United.{United}
-use Rattle.union.specs.Steps.{BothNumbered, Records, pairs_of_both, by_question, Gathered}
+use Rattle.search.specs.Names.{StepTable}
+use Rattle.union.specs.declared.graph.United.{United}
+use Rattle.union.specs.declared.steps.Question.{Question}
+use Rattle.union.specs.Steps.{by_question}
 
--- how many names two records have, each counted in both
-abbrev pub names_of_both : Bytes → Bytes → ℕ
-names_of_both b c = name_count b + name_count c
+-- how many names two records have, each counted in both, and how many pairs
+abbrev pub names_of_both : GraphName → GraphName → ℕ
+names_of_both g h = length (names g) + length (names h)
 
--- two records, and tables with room for their names and pairs
-pub record Unitable (b c : Bytes) (rows spans numbers steps : List ℕ) : Type 0 where
-  pub records : Records b c
-  pub rows_for_names : names_of_both b c ≤ length rows
-  pub rows_for_pairs : pairs_of_both b c ≤ length rows
-  pub spans_room : names_of_both b c ≤ length spans
-  pub numbers_room : names_of_both b c ≤ length numbers
-  pub steps_room : pairs_of_both b c ≤ length steps
+abbrev pub pairs_of_two : GraphName → GraphName → ℕ
+pairs_of_two g h = (length g.subgraph + length h.subgraph) + (length g.translation + length h.translation)
+
+-- tables with room for the names and pairs of two records
+pub record Unitable (g h : GraphName) (rows : List ℕ) (spans : List Span) (numbers steps : List ℕ) : Type 0 where
+  pub rows_room : pairs_of_two g h ≤ length rows
+  pub spans_room : names_of_both g h ≤ length spans
+  pub numbers_room : names_of_both g h ≤ length numbers
+  pub steps_room : pairs_of_two g h ≤ length steps
+
+-- the name of a node
+abbrev pub name_in : Names → ℕ → Bytes
+name_in n v = name_by n.first.now n.second.now n.spans.now v
+
+-- each name of a list has a node
+pub record NodesOf (ns : List Bytes) (numbers : List ℕ) (n : Names) : Type 0 where
+  pub room : length ns ≤ length numbers
+  pub nodes : (p : ℕ) → p < length ns → (get_or numbers p 0 < length n.spans.now) × (name_in n (get_or numbers p 0) ≡ get_or ns p [])
 
 -- the nodes stand for the names of both in their order, and the steps for the relations of the question
-pub record IsUnited (full : Bool) (b c : Bytes) (spans numbers steps : List ℕ) (r : United) : Type 0 where
-  pub count : r.nodes ≤ names_of_both b c
-  pub numbered : BothNumbered b c numbers r.nodes (name_by b c (take r.nodes spans))
-  pub gathered : Gathered b c numbers (by_question full) (pairs_of_both b c) steps r.steps
+pub record IsUnited (q : Question) (g h : GraphName) (r : United) : Type 0 where
+  pub names_count : length r.names.spans.now ≤ names_of_both g h
+  pub steps_count : length r.steps.now ≤ pairs_of_two g h
+  pub first : NodesOf (names g) r.first.now r.names
+  pub second : NodesOf (names h) r.second.now r.names
+  pub table : StepTable r.steps.now (length r.names.spans.now) (name_in r.names) (by_question q g h)

@@ -1,33 +1,55 @@
 // Two records as nodes and steps, in tables that are lent.
 ghost use Rattle.union.specs.United.{Unitable, IsUnited};
 
-use crate::United;
-use crate::names::{join_rows, read_spans};
-use crate::steps::question_steps;
-use record::name_count;
+use crate::names::{RecordNames, join};
+use crate::steps::{NumberedRecord, Question, question_steps};
+use record::Record;
+use search::{Names, Span, Step};
 
-// The names of both records as nodes, in `spans`; in `numbers` by place in the first record, and behind these by place in the second,
-// the node of the name there; and the steps that a question goes by, in `steps`. The table `rows` is for rows that are joined or merged.
+// The names of the nodes, and the steps between them; by place in each record, the node of the name there.
+#[derive(Clone, Copy)]
+pub struct United<'a> {
+    pub names: Names<'a>,
+    pub steps: &'a [Step],
+    pub first: &'a [u16],
+    pub second: &'a [u16],
+}
+
+// The names of both records as nodes, in `spans`, with the node of each by its place in `numbers`; and the steps that a question goes by,
+// in `steps`. The table `rows` is for rows that are merged.
 pub fn unite<'a>(
-    b: &'a [u8],
-    c: &'a [u8],
-    full: bool,
-    rows: &mut [u32],
-    spans: &mut [u32],
-    numbers: &mut [u16],
-    steps: &mut [u32],
-) -> United
+    b: &Record<'a>,
+    c: &Record<'a>,
+    question: Question,
+    rows: &mut [Step],
+    spans: &'a mut [Span],
+    numbers: &'a mut [u16],
+    steps: &'a mut [Step],
+) -> United<'a>
     requires { Unitable b.now c.now rows.old spans.old numbers.old steps.old }
-    ensures { IsUnited full b.now c.now spans.new numbers.new steps.new result }
+    ensures { IsUnited question b.now c.now result }
 {
-    let m = name_count(b);
-    let n = name_count(c);
-    read_spans(b, 0, rows, 0);
-    read_spans(c, b.len(), rows, m);
-    let nodes = join_rows(b, c, &rows[..m + n], m, spans, numbers);
-    let count = question_steps(b, c, full, numbers, rows, steps);
+    let b = RecordNames::of(b);
+    let c = RecordNames::of(c);
+    let (first, second) = numbers.split_at_mut(b.count);
+    let nodes = join(b, c, spans, first, second);
+    let mine = NumberedRecord {
+        bytes: b.bytes,
+        numbers: first,
+    };
+    let other = NumberedRecord {
+        bytes: c.bytes,
+        numbers: second,
+    };
+    let count = question_steps(mine, other, question, rows, steps);
     United {
-        nodes,
-        steps: count,
+        names: Names {
+            first: b.bytes,
+            second: c.bytes,
+            spans: &spans[..nodes],
+        },
+        steps: &steps[..count],
+        first,
+        second,
     }
 }

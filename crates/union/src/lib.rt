@@ -6,11 +6,5 @@ mod graph;
 mod names;
 mod steps;
 
-pub use graph::unite;
-
-// How many nodes there are, and how many steps.
-#[derive(Clone, Copy)]
-pub struct United {
-    pub nodes: usize,
-    pub steps: usize,
-}
+pub use graph::{United, unite};
+pub use steps::Question;

@@ -1,135 +1,107 @@
 // The names of two records as one ascending row of spans, and by place in each record the number of its name.
-ghost use Rattle.std.specs.Prelude.{◌≡◌, true, cond, ◌+◌, ◌≤◌, ◌<◌, length, set, take, drop};
-ghost use Rattle.model.specs.Layout.{record_length, name_count};
-ghost use Rattle.search.specs.Table.{Written};
-ghost use Rattle.union.specs.Names.{span_at, Readable, IsNext, Joinable, Joined};
+ghost use Rattle.std.specs.Prelude.{◌≡◌, ◌≤◌, ◌<◌, length};
+ghost use Rattle.model.specs.Layout.{record_length, name_count, bodies_at, name_at, shown};
+ghost use Rattle.record.specs.Holds.{HoldsRecord};
+ghost use Rattle.union.specs.Names.{span_at, next_order, Joinable, Joined};
 
+use record::{Record, bodies_at, body_length, body_start, name_count, name_in};
+use search::Span;
 use std::cmp::Ordering;
-use record::{bodies_at, body_length, body_start, name_count};
-use search::{SPAN_LENGTHS, name_of};
 use text::compare;
 
-// The spans of the names of a record that stands behind `before` bytes, in `rows` from place `at` on.
-pub(crate) fn read_spans(b: &[u8], before: usize, rows: &mut [u32], at: usize)
-    requires { Readable b.now × (before ≤ record_length) × (at + name_count b.now ≤ length rows.old) }
-    ensures { Written rows.old rows.new at (name_count b.now) (span_at before b.now) }
-{
-    let bodies = before + bodies_at(b);
-    let n = name_count(b);
-    let mut i = 0;
-    while i < n {
-        let start = bodies + body_start(b, i);
-        rows[at + i] = start as u32 * SPAN_LENGTHS + body_length(b, i) as u32;
-        i += 1;
-    }
-}
-
-// The span of a name, and which of two rows hold the name at the places at hand.
+// The names of a record, by place: how many there are, and where their bodies begin.
 #[derive(Clone, Copy)]
-struct Next {
-    span: u32,
-    first: bool,
-    second: bool,
+pub(crate) struct RecordNames<'a> {
+    pub bytes: &'a [u8],
+    pub count: usize,
+    pub bodies: usize,
+    ghost holds: { HoldsRecord bytes.now },
+    ghost counted: { count ≡ name_count bytes.now },
+    ghost begun: { bodies ≡ bodies_at bytes.now },
 }
 
-// The next name of two rows of spans, with i and j of their names passed.
-fn next_name<'a>(
-    first: &'a [u8],
-    second: &'a [u8],
-    xs: &[u32],
-    ys: &[u32],
-    i: usize,
-    j: usize,
-) -> Next
-    requires { (i ≤ length xs.now) × (j ≤ length ys.now) × (i + j < length xs.now + length ys.now) }
-    ensures { IsNext first.now second.now xs.now ys.now i j result.span result.first result.second }
+impl<'a> RecordNames<'a> {
+    // Those of a record.
+    pub(crate) fn of(b: &Record<'a>) -> RecordNames<'a>
+        ensures { shown result.bytes.now ≡ b.now }
+    {
+        let bytes = b.bytes();
+        RecordNames {
+            bytes,
+            count: name_count(bytes),
+            bodies: bodies_at(bytes),
+        }
+    }
+
+    // The name at a place.
+    fn name(self, i: usize) -> &'a [u8]
+        requires { i < self.count }
+        ensures { result.now ≡ name_at self.entry.bytes.now i }
+    {
+        name_in(self.bytes, self.bodies, i)
+    }
+
+    // Its span, with the record behind `before` bytes.
+    fn span(self, i: usize, before: usize) -> Span
+        requires { (i < self.count) × (before ≤ record_length) }
+        ensures { result ≡ span_at before self.entry.bytes.now i }
+    {
+        let start = before + self.bodies + body_start(self.bytes, i);
+        Span {
+            start: start as u32,
+            size: body_length(self.bytes, i) as u16,
+        }
+    }
+}
+
+// How the names at two places compare; where there is none, the other one comes first.
+fn compare_next<'a>(b: RecordNames<'a>, c: RecordNames<'a>, i: usize, j: usize) -> Ordering
+    ensures { result ≡ next_order b.entry.bytes.now c.entry.bytes.now i j }
 {
-    if ys.len() <= j {
-        return Next {
-            span: xs[i],
-            first: true,
-            second: false,
-        };
+    if c.count <= j {
+        return Ordering::Less;
     }
-    if xs.len() <= i {
-        return Next {
-            span: ys[j],
-            first: false,
-            second: true,
-        };
+    if b.count <= i {
+        return Ordering::Greater;
     }
-    let x = xs[i];
-    let y = ys[j];
-    match compare(name_of(first, second, x), name_of(first, second, y)) {
-        Ordering::Less => Next {
-            span: x,
-            first: true,
-            second: false,
-        },
-        Ordering::Equal => Next {
-            span: x,
-            first: true,
-            second: true,
-        },
-        Ordering::Greater => Next {
-            span: y,
-            first: false,
-            second: true,
-        },
-    }
+    compare(b.name(i), c.name(j))
 }
 
-// Notes the number v at a place where its name is held; gives how many places that passes.
-fn number_name(numbers: &mut [u16], at: usize, v: usize, held: bool) -> usize
-    requires { (v < 65536) × (held ≡ true → at < length numbers.old) }
-    ensures { (result ≡ cond held 1 0) × (numbers.new ≡ cond held (set numbers.old at v) numbers.old) }
-{
-    if !held {
-        return 0;
-    }
-    numbers[at] = v as u16;
-    1
-}
-
-// Joins two rows of spans whose names ascend: a name that both hold is one. By place in the first row, and behind these by place in the
-// second, notes the number of the name there; gives how many names there are.
-fn join<'a>(
-    first: &'a [u8],
-    second: &'a [u8],
-    xs: &[u32],
-    ys: &[u32],
-    spans: &mut [u32],
-    numbers: &mut [u16],
+// Joins the names of two records: one that both have is one. Notes the number of each by its place; gives how many there are.
+pub(crate) fn join<'a>(
+    b: RecordNames<'a>,
+    c: RecordNames<'a>,
+    spans: &mut [Span],
+    first: &mut [u16],
+    second: &mut [u16],
 ) -> usize
-    requires { Joinable first.now second.now xs.now ys.now spans.old numbers.old }
-    ensures { Joined first.now second.now xs.now ys.now spans.new numbers.new result }
+    requires { Joinable b.bytes.now c.bytes.now spans.old first.old second.old }
+    ensures { Joined b.entry.bytes.now c.entry.bytes.now spans.new first.new second.new result }
 {
-    let m = xs.len();
-    let end = m + ys.len();
     let mut i = 0;
     let mut j = 0;
     let mut v = 0;
-    while i + j < end {
-        let next = next_name(first, second, xs, ys, i, j);
-        spans[v] = next.span;
-        i += number_name(numbers, i, v, next.first);
-        j += number_name(numbers, m + j, v, next.second);
+    while i < b.count || j < c.count {
+        match compare_next(b, c, i, j) {
+            Ordering::Less => {
+                spans[v] = b.span(i, 0);
+                first[i] = v as u16;
+                i += 1;
+            }
+            Ordering::Greater => {
+                spans[v] = c.span(j, b.bytes.len());
+                second[j] = v as u16;
+                j += 1;
+            }
+            Ordering::Equal => {
+                spans[v] = b.span(i, 0);
+                first[i] = v as u16;
+                second[j] = v as u16;
+                i += 1;
+                j += 1;
+            }
+        }
         v += 1;
     }
     v
-}
-
-// Joins the row of the first m spans and the one behind it.
-pub(crate) fn join_rows<'a>(
-    first: &'a [u8],
-    second: &'a [u8],
-    rows: &[u32],
-    m: usize,
-    spans: &mut [u32],
-    numbers: &mut [u16],
-) -> usize
-    requires { (m ≤ length rows.now) × Joinable first.now second.now (take m rows.now) (drop m rows.now) spans.old numbers.old }
-    ensures { Joined first.now second.now (take m rows.now) (drop m rows.now) spans.new numbers.new result }
-{
-    join(first, second, &rows[..m], &rows[m..], spans, numbers)
 }
