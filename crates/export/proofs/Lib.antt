@@ -7,5 +7,4 @@ pub mod ReadBack
 pub mod Texts
 pub mod Runs
 pub mod Wording
-pub mod Tested
-pub mod Answering
+pub mod Values

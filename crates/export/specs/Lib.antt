@@ -1,5 +1,3 @@
--- The texts, what their writers ask, and what each case of an answer means.
+-- The texts, and what their writers ask of a buffer and of what appends a text.
 pub mod Texts
 pub mod Places
-pub mod Words
-pub mod Answers

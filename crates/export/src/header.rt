@@ -1,99 +1,95 @@
 // A record as header lines, in either format.
-ghost use Rattle.std.specs.Prelude.{length};
-ghost use Rattle.model.specs.Layout.{shown};
-ghost use Rattle.model.specs.Written.{gfa_written, gaf_written};
+ghost use Rattle.std.specs.Prelude.{◌≡◌, length};
+ghost use Rattle.model.specs.Writing.{name_line};
+ghost use Rattle.model.specs.Written.{gfa_written, gaf_written, size_written, output_with};
 ghost use Rattle.text.specs.Appending.{Appends};
-ghost use Rattle.export.specs.Texts.{name_text, header_lines, lines_written};
-ghost use Rattle.export.specs.Places.{RecordIn};
-ghost use Rattle.export.specs.Answers.{Answers};
+ghost use Rattle.export.specs.Texts.{header_lines, lines_written};
 
-use crate::answer::Written;
-use crate::pairs::append_pairs;
-use model::Kind;
-use record::{has_name, own_name};
+use crate::output::write_text;
+use crate::pairs::{Around, Pairs};
+use model::{Fault, Kind};
+use record::Record;
 use text::append;
 
-// Appends the own name, if there is one, with `before` and `after`.
-pub(crate) fn append_name(out: &mut [u8], at: usize, b: &[u8], before: &[u8], after: &[u8]) -> usize
-    requires { RecordIn b.now }
-    ensures { Appends out.old at (name_text before.now after.now (shown b.now).name) result out.new }
-{
-    if !has_name(b) {
-        return at;
-    }
-    let p = append(out, at, before);
-    let q = append(out, p, own_name(b));
-    append(out, q, after)
+// What stands around names in the lines of a format: before the own name, before a pair of each kind, and between two names.
+#[derive(Clone, Copy)]
+struct Format<'a> {
+    name: &'a [u8],
+    subgraph: &'a [u8],
+    translation: &'a [u8],
+    between: u8,
 }
 
-// Appends all lines, by what stands before the own name and before a pair of each kind, and between two names.
-fn append_lines(
-    out: &mut [u8],
-    b: &[u8],
-    name: &[u8],
-    subgraph: &[u8],
-    translation: &[u8],
-    between: u8,
-) -> usize
-    requires { RecordIn b.now }
-    ensures { Appends out.old 0
-        (header_lines name.now subgraph.now translation.now between (shown b.now)) result out.new }
+const GFA: Format = Format {
+    name: b"H\tNM:Z:",
+    subgraph: b"H\tSG:Z:",
+    translation: b"H\tTL:Z:",
+    between: b',',
+};
+
+const GAF: Format = Format {
+    name: b"@RN\t",
+    subgraph: b"@SG\t",
+    translation: b"@TL\t",
+    between: b'\t',
+};
+
+// Appends the line of the own name, if there is one, to the front of the output.
+fn append_name(out: &mut [u8], graph: &Record, before: &[u8]) -> usize
+    ensures { Appends out.old 0 (name_line before.now graph.now.name) result out.new }
 {
-    let p = append_name(out, 0, b, name, b"\n");
-    let q = append_pairs(
-        out,
-        p,
-        b,
-        Kind::Subgraph,
-        subgraph,
-        subgraph,
-        between,
-        b"\n",
-    );
-    append_pairs(
-        out,
-        q,
-        b,
-        Kind::Translation,
-        translation,
-        translation,
-        between,
-        b"\n",
-    )
+    match graph.own_name() {
+        Some(name) => {
+            let p = append(out, 0, before);
+            let q = append(out, p, name);
+            append(out, q, b"\n")
+        }
+        None => 0,
+    }
 }
 
-// Writes a record as header lines, by what stands before the own name and before a pair of each kind, and between two names.
-fn write_lines(
-    b: &[u8],
-    out: &mut [u8],
-    name: &[u8],
-    subgraph: &[u8],
-    translation: &[u8],
-    between: u8,
-) -> Written
-    ensures { Answers (lines_written name.now subgraph.now translation.now between b.now (length out.old)) out.old result out.new }
+// Appends all lines of a format to the front of the output.
+fn append_lines(out: &mut [u8], graph: &Record, format: Format) -> usize
+    ensures { Appends out.old 0 (header_lines format.entry graph.now) result out.new }
 {
-    let number = record::fault(b);
-    if number != 0 {
-        return Written::Refused(number);
-    }
-    let mut none: [u8; 0] = [];
-    if out.len() < append_lines(&mut none, b, name, subgraph, translation, between) {
-        return Written::Refused(17);
-    }
-    Written::Wrote(append_lines(out, b, name, subgraph, translation, between))
+    let subgraph = Around {
+        before: format.subgraph,
+        between: format.between,
+        after: b"\n",
+    };
+    let translation = Around {
+        before: format.translation,
+        ..subgraph
+    };
+    let p = append_name(out, graph, format.name);
+    let q = Pairs::of(graph, Kind::Subgraph).append(out, p, subgraph);
+    Pairs::of(graph, Kind::Translation).append(out, q, translation)
+}
+
+// Writes a record as the header lines of a format.
+#[tactic(auto, unfolding(crate::specs::Texts::lines_written, model::specs::Questions::asked))]
+fn write_lines(b: &[u8], out: &mut [u8], format: Format) -> Result<usize, Fault>
+    ensures size { result ≡ size_written (lines_written format.entry b.now (length out.old)) }
+    ensures output { out.new ≡ output_with (lines_written format.entry b.now (length out.old)) out.old }
+{
+    let graph = Record::open(b)?;
+    write_text(out, |out| append_lines(out, &graph, format))
 }
 
 // Writes a record as GFA header lines.
-pub fn to_gfa_header_lines(b: &[u8], out: &mut [u8]) -> Written
-    ensures { Answers (gfa_written b.now (length out.old)) out.old result out.new }
+#[tactic(auto, unfolding(model::specs::Written::gfa_written, model::specs::Writing::to_gfa_header_lines, crate::specs::Texts::lines_written))]
+pub fn to_gfa_header_lines(b: &[u8], out: &mut [u8]) -> Result<usize, Fault>
+    ensures size { result ≡ size_written (gfa_written b.now (length out.old)) }
+    ensures output { out.new ≡ output_with (gfa_written b.now (length out.old)) out.old }
 {
-    write_lines(b, out, b"H\tNM:Z:", b"H\tSG:Z:", b"H\tTL:Z:", 44)
+    write_lines(b, out, GFA)
 }
 
 // Writes a record as GAF header lines.
-pub fn to_gaf_header_lines(b: &[u8], out: &mut [u8]) -> Written
-    ensures { Answers (gaf_written b.now (length out.old)) out.old result out.new }
+#[tactic(auto, unfolding(model::specs::Written::gaf_written, model::specs::Writing::to_gaf_header_lines, crate::specs::Texts::lines_written))]
+pub fn to_gaf_header_lines(b: &[u8], out: &mut [u8]) -> Result<usize, Fault>
+    ensures size { result ≡ size_written (gaf_written b.now (length out.old)) }
+    ensures output { out.new ≡ output_with (gaf_written b.now (length out.old)) out.old }
 {
-    write_lines(b, out, b"@RN\t", b"@SG\t", b"@TL\t", 9)
+    write_lines(b, out, GAF)
 }

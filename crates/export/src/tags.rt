@@ -1,91 +1,75 @@
 // A record as the values of three tags: its name, and the relations of each kind.
-ghost use Rattle.std.specs.Prelude.{◌≡◌, true, ◌&&◌, ◌<◌, length};
-ghost use Rattle.model.specs.Layout.{shown};
-ghost use Rattle.model.specs.Questions.{pairs_of};
+ghost use Rattle.std.specs.Prelude.{◌≡◌, true, ◌<◌, length};
+ghost use Rattle.model.specs.Questions.{pairs_of, mapped};
 ghost use Rattle.model.specs.Writing.{relations_tag};
-ghost use Rattle.model.specs.Written.{fits, tags_written};
-ghost use Rattle.text.specs.Appending.{Appends};
-ghost use Rattle.export.specs.Texts.{value_text};
-ghost use Rattle.export.specs.Places.{RecordIn};
-ghost use Rattle.export.specs.Answers.{TagAnswers, AllAnswers};
+ghost use Rattle.model.specs.Written.{fits, tags_of, tags_written, tag_sizes, put_value, output_with_tag};
+ghost use Rattle.export.specs.Texts.{all_fit};
 
-use crate::answer::{Tag, WrittenTags};
-use crate::header::append_name;
-use crate::pairs::append_pairs;
-use model::Kind;
-use record::{has_name, pair_count};
+use crate::pairs::append_relations;
+use model::{Fault, Kind, TagSizes};
+use record::Record;
+use text::append;
 
-// Appends the relations of a kind to the front of the output: `from,to` for each pair, semicolons between.
-fn append_relations(out: &mut [u8], b: &[u8], kind: Kind) -> usize
-    requires { RecordIn b.now }
-    ensures { Appends out.old 0 (value_text (relations_tag (pairs_of kind (shown b.now)))) result out.new }
+// Whether the relations of a kind fit an output of so many bytes.
+fn relations_fit(graph: &Record, kind: Kind, room: usize) -> bool
+    requires { room < usize.MAX }
+    ensures { result ≡ fits (relations_tag (pairs_of kind graph.now)) room }
 {
-    append_pairs(out, 0, b, kind, b"", b";", 44, b"")
+    append_relations(&mut [], graph, kind) <= room
 }
 
 // Whether each value fits an output of so many bytes.
-fn all_fit(b: &[u8], name: usize, subgraph: usize, translation: usize) -> bool
-    requires { RecordIn b.now × (name < 18446744073709551615) × (subgraph < 18446744073709551615) × (translation < 18446744073709551615) }
-    ensures { result ≡ (fits (shown b.now).name name && (fits (relations_tag (shown b.now).subgraph) subgraph && fits (relations_tag (shown b.now).translation) translation)) }
+fn all_fit(graph: &Record, name: usize, subgraph: usize, translation: usize) -> bool
+    requires { (subgraph < usize.MAX) × (translation < usize.MAX) }
+    ensures { result ≡ all_fit (tags_of graph.now) name subgraph translation }
 {
-    let mut none: [u8; 0] = [];
-    if name < append_name(&mut none, 0, b, b"", b"") {
-        return false;
-    }
-    if subgraph < append_relations(&mut none, b, Kind::Subgraph) {
-        return false;
-    }
-    if translation < append_relations(&mut none, b, Kind::Translation) {
-        return false;
-    }
-    true
+    graph.own_name().is_none_or(|n| n.len() <= name)
+        && relations_fit(graph, Kind::Subgraph, subgraph)
+        && relations_fit(graph, Kind::Translation, translation)
 }
 
 // Writes the own name, if there is one.
-fn write_name(out: &mut [u8], b: &[u8]) -> Tag
-    requires { RecordIn b.now × (fits (shown b.now).name (length out.old) ≡ true) }
-    ensures { TagAnswers (shown b.now).name out.old result out.new }
+fn write_name(out: &mut [u8], graph: &Record) -> Option<usize>
+    requires { fits graph.now.name (length out.old) ≡ true }
+    ensures size { result ≡ mapped length graph.now.name }
+    ensures output { out.new ≡ put_value graph.now.name out.old }
 {
-    let size = append_name(out, 0, b, b"", b"");
-    if !has_name(b) {
-        return Tag::Absent;
-    }
-    Tag::Size(size)
+    let name = graph.own_name()?;
+    Some(append(out, 0, name))
 }
 
 // Writes the relations of a kind, if there are any.
-fn write_relations(out: &mut [u8], b: &[u8], kind: Kind) -> Tag
-    requires { RecordIn b.now × (fits (relations_tag (pairs_of kind (shown b.now))) (length out.old) ≡ true) }
-    ensures { TagAnswers (relations_tag (pairs_of kind (shown b.now))) out.old result out.new }
+fn write_relations(out: &mut [u8], graph: &Record, kind: Kind) -> Option<usize>
+    requires { fits (relations_tag (pairs_of kind graph.now)) (length out.old) ≡ true }
+    ensures size { result ≡ mapped length (relations_tag (pairs_of kind graph.now)) }
+    ensures output { out.new ≡ put_value (relations_tag (pairs_of kind graph.now)) out.old }
 {
-    let size = append_relations(out, b, kind);
-    if pair_count(b, kind) == 0 {
-        return Tag::Absent;
+    if graph.pair_count(kind) == 0 {
+        return None;
     }
-    Tag::Size(size)
+    Some(append_relations(out, graph, kind))
 }
 
 // Writes the values of the three tags, each to the front of its own output, and none unless all fit.
+#[tactic(auto, unfolding(model::specs::Written::tags_written, model::specs::Questions::asked))]
 pub fn set_tags(
     b: &[u8],
     name: &mut [u8],
     subgraph: &mut [u8],
     translation: &mut [u8],
-) -> WrittenTags
-    ensures { AllAnswers
-        (tags_written b.now (length name.old) (length subgraph.old) (length translation.old))
-        name.old subgraph.old translation.old result name.new subgraph.new translation.new }
+) -> Result<TagSizes, Fault>
+    ensures sizes { result ≡ tag_sizes (tags_written b.now (length name.old) (length subgraph.old) (length translation.old)) }
+    ensures name_output { name.new ≡ output_with_tag (λ v. v.name) (tags_written b.now (length name.old) (length subgraph.old) (length translation.old)) name.old }
+    ensures subgraph_output { subgraph.new ≡ output_with_tag (λ v. v.subgraph) (tags_written b.now (length name.old) (length subgraph.old) (length translation.old)) subgraph.old }
+    ensures translation_output { translation.new ≡ output_with_tag (λ v. v.translation) (tags_written b.now (length name.old) (length subgraph.old) (length translation.old)) translation.old }
 {
-    let number = record::fault(b);
-    if number != 0 {
-        return WrittenTags::Refused(number);
+    let graph = Record::open(b)?;
+    if !all_fit(&graph, name.len(), subgraph.len(), translation.len()) {
+        return Err(Fault::OutputShort);
     }
-    if !all_fit(b, name.len(), subgraph.len(), translation.len()) {
-        return WrittenTags::Refused(17);
-    }
-    WrittenTags::Are {
-        name: write_name(name, b),
-        subgraph: write_relations(subgraph, b, Kind::Subgraph),
-        translation: write_relations(translation, b, Kind::Translation),
-    }
+    Ok(TagSizes {
+        name: write_name(name, &graph),
+        subgraph: write_relations(subgraph, &graph, Kind::Subgraph),
+        translation: write_relations(translation, &graph, Kind::Translation),
+    })
 }

@@ -1,21 +1,14 @@
 -- Nothing where there is no own name; else three texts, one behind the other.
-use mathlib.Core.Path.{sym, ap}
-use Rattle.model.specs.Layout.{shown}
-use Rattle.text.proofs.Appending.{appends_none, appends_as, appends_both}
-use Rattle.record.proofs.Own.{named, unnamed}
-use Rattle.export.specs.Texts.{name_text}
+use mathlib.Core.Path.{ap}
 use Rattle.std.proofs.Common.{arith}
+use Rattle.model.specs.Writing.{name_line}
+use Rattle.text.proofs.Appending.{appends_none, appends_as, appends_both}
 use Rattle.export.proofs.header.append_name.Goals as goal
 
-pub returns-then-not-has_name : goal.returns-then-not-has_name
-returns-then-not-has_name c =
-    let a = c.args in
-    let None = unnamed (shown a.b.now).name (sym c.if-not-has_name.ensures) in
-    appends_as (ap (name_text a.before.now a.after.now) (sym None)) (appends_none a.out.now a.at (omega arith))
+pub returns-in-Some : goal.returns-in-Some
+returns-in-Some c =
+    appends_as (ap (name_line c.args.before.now) c.in-Some.ensures)
+    (appends_both (appends_both c.append-p.ensures c.append-q.ensures) c.append.ensures)
 
-pub returns : goal.returns
-returns c =
-    let a = c.args in
-    let Some = named (shown a.b.now).name (sym c.if-not-has_name.ensures) in
-    appends_as (ap (name_text a.before.now a.after.now) (sym Some))
-    (appends_both (appends_both c.append-p.ensures (appends_as c.own_name.ensures c.append-q.ensures)) c.append.ensures)
+pub returns-in-None : goal.returns-in-None
+returns-in-None c = appends_as (ap (name_line c.args.before.now) c.in-None.ensures) (appends_none c.args.out.now 0 (omega arith))
