@@ -10,8 +10,7 @@ use Rattle.model.specs.Bytes.{Bytes}
 use Rattle.model.specs.Record.{GraphName, names}
 use Rattle.model.specs.Layout.{name_count, shown}
 use Rattle.record.specs.Holds.{HoldsRecord}
-use Rattle.record.proofs.Access.{record_name}
-use Rattle.record.proofs.Meaning.{names_counted, pairs_counted}
+use Rattle.record.proofs.Access.{record_count, record_pair_count, record_name}
 use Rattle.search.specs.declared.names.Span.{Span}
 use Rattle.search.specs.Spans.{spanned, no_span, name_by}
 use Rattle.union.specs.declared.graph.United.{United}
@@ -28,18 +27,18 @@ module _ (b c : Bytes) (hb : HoldsRecord b) (hc : HoldsRecord c) (g h : GraphNam
   pairs_are : pairs_of_both b c
       ≡ (length (shown b).subgraph + length (shown c).subgraph) + (length (shown b).translation + length (shown c).translation)
   pairs_are =
-      omega (arith, pairs_counted b hb Subgraph, pairs_counted c hc Subgraph, pairs_counted b hb Translation, pairs_counted c hc Translation)
+      omega (arith, record_pair_count b (shown b) hb.decoded Subgraph, record_pair_count c (shown c) hc.decoded Subgraph, record_pair_count b (shown b) hb.decoded Translation, record_pair_count c (shown c) hc.decoded Translation)
 
   pub numbers_fit : name_count b ≤ length numbers
-  numbers_fit = omega (arith, names_counted b hb, ready.numbers_room)
+  numbers_fit = omega (arith, record_count b (shown b) hb.decoded, ready.numbers_room)
 
   -- the numbers of each record by themselves
   module _ (first second : List ℕ) (first_long : length first ≡ name_count b) (second_long : length second ≡ length numbers - name_count b) where
     pub joinable : Joinable b c spans first second
     joinable = record {
-      spans_room = omega (arith, names_counted b hb, names_counted c hc, ready.spans_room);
+      spans_room = omega (arith, record_count b (shown b) hb.decoded, record_count c (shown c) hc.decoded, ready.spans_room);
       first_room = omega arith;
-      second_room = omega (arith, names_counted b hb, names_counted c hc, ready.numbers_room);
+      second_room = omega (arith, record_count b (shown b) hb.decoded, record_count c (shown c) hc.decoded, ready.numbers_room);
     }
 
     module _ (spans' : List Span) (first' second' : List ℕ) (n : ℕ) (same_spans : length spans' ≡ length spans) (same_first : length first' ≡ length first)
@@ -82,16 +81,16 @@ module _ (b c : Bytes) (hb : HoldsRecord b) (hc : HoldsRecord c) (g h : GraphNam
             (steps_are : r.steps.now ≡ take count steps') (numbers_are : r.first.now ≡ first') (others_are : r.second.now ≡ second') where
           nodes_of : (d : Bytes) → HoldsRecord d → (ns : List ℕ) → name_count d ≤ length ns → NumberedTo (name_count d) d ns n (name_by b c nodes) → NodesOf (names (shown d)) ns r.names
           nodes_of d hd ns room to = record {
-            room = omega (arith, names_counted d hd);
+            room = omega (arith, record_count d (shown d) hd.decoded);
             nodes = λ p l.
-                let i : p < name_count d = omega (arith, names_counted d hd) in
+                let i : p < name_count d = omega (arith, record_count d (shown d) hd.decoded) in
                 let f = to p i in
                 rw (spans_are, first_is, second_is, nodes_long) (f.0, f.1 ∙ sym (record_name d (shown d) hd.decoded p i));
           }
 
           united_shown : IsUnited q (shown b) (shown c) r
           united_shown = record {
-            names_count = rw (spans_are, nodes_long) (omega (arith, j.count, names_counted b hb, names_counted c hc));
+            names_count = rw (spans_are, nodes_long) (omega (arith, j.count, record_count b (shown b) hb.decoded, record_count c (shown c) hc.decoded));
             steps_count = rw (steps_are, steps_long) (omega (arith, gathered.count, pairs_are));
             first = rw numbers_are (nodes_of b hb first' numbered.first_room numbered.of_first);
             second = rw others_are (nodes_of c hc second' numbered.second_room numbered.of_second);
