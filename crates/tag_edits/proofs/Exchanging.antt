@@ -16,6 +16,7 @@ use Rattle.block.proofs.Spliced.{length_pad_to, pad_zeros, put_pad_to, splice_pa
 use Rattle.tag_list.proofs.Bodies.{tag_bodies_append, tag_entries_append, length_tag_entries}
 use Rattle.tag_list.proofs.Standing.{contents_within}
 use Rattle.tag_list.proofs.Walk.{holds}
+use Rattle.tag_edits.specs.declared.exchange.Gap.{Gap}
 use Rattle.tag_edits.specs.Exchanged.{count_then, exchanged, Exchange}
 
 -- ------------------------------------------------------------------ contents in parts
@@ -146,7 +147,19 @@ module _ (i held : ℕ) (ts : List Tag) (h : i + held ≤ length ts) where
 
 -- ------------------------------------------------------------------ the steps
 
-module _ (b : Bytes) (i start held old : ℕ) (entry t u : Bytes) (x : Exchange b i start held old (length entry) (length t + length u)) where
+module _ (b : Bytes) (g : Gap) (entry t u : Bytes) (x : Exchange b g (length entry) (length t + length u)) where
+  abbrev i : ℕ
+  i = g.place
+
+  abbrev start : ℕ
+  start = g.start
+
+  abbrev held : ℕ
+  held = g.held
+
+  abbrev old : ℕ
+  old = g.size
+
   -- the tags stand within the count that is read, and the count then follows from it
   pub counts : (n : ℕ) → n ≡ number32 b 0 → (i + held ≤ n) × (n - held + length entry / 8 ≡ count_then held entry (shown_tags b))
   counts n e = let c = e ∙ (holds b x.listed).count in (omega (arith, x.place), ap (λ (m : ℕ). m - held + length entry / 8) c)
@@ -252,10 +265,10 @@ module _ (b : Bytes) (i start held old : ℕ) (entry t u : Bytes) (x : Exchange 
         third_fits = omega (arith, second_length)
 
         pub exchanges : (count : ℕ) → count ≡ count_then held entry (shown_tags b) → (b₃ : Bytes) → b₃ ≡ put b₂ 0 (le32 count)
-            → b₃ ≡ pad_to tags_length (exchanged i held entry (t ++ u) (shown_tags b))
+            → b₃ ≡ pad_to tags_length (exchanged g entry (t ++ u) (shown_tags b))
         exchanges count d b₃ e₃ =
             let ts = shown_tags b in
-            let f : joined (count_then held entry ts) entry (t ++ u) i held ts ≡ exchanged i held entry (t ++ u) ts = unfold joined exchanged in refl in
+            let f : joined (count_then held entry ts) entry (t ++ u) i held ts ≡ exchanged g entry (t ++ u) ts = unfold joined exchanged in refl in
             e₃
             ∙ ap (λ (c : Bytes). put c 0 (le32 count)) second_done
             ∙ other_count i held ts x.place (length ts) entry (t ++ u) tags_length count

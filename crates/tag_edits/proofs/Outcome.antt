@@ -8,7 +8,7 @@ use Prim.Native.Nat.{ℕ, zero, suc, ◌≤◌}
 use native.Mathlib.Omega.{arith}
 use lib.ListN.{length}
 use lib.Dec.{leb}
-use Rattle.model.specs.declared.fault.Fault.TheVariants.{BadKey, LongValue, TagsFull}
+use Rattle.model.specs.declared.fault.Fault.TheVariants.{BadKey, LongValue, TagsFull, NotATagList}
 use borrow.Author.Tests.{leb-true, le-leb}
 use Rattle.model.specs.Bytes.{Bytes, same_bytes}
 use Rattle.model.specs.Opening.{Given, and_then, or_refuse, number_of}
@@ -36,7 +36,7 @@ pub list_accepted : {A : Type 0} (b : Bytes) (f : List Tag → Given A) → numb
 unfolding tag_list
 list_accepted b f z = go (decode_tags b) refl z
   where
-    go : (o : Option (List Tag)) → decode_tags b ≡ o → number_of (and_then (or_refuse 29 o) f) ≡ 0
+    go : (o : Option (List Tag)) → decode_tags b ≡ o → number_of (and_then (or_refuse NotATagList o) f) ≡ 0
         → (ts : List Tag) × (decode_tags b ≡ Some ts) × (number_of (f ts) ≡ 0)
     go None d z = absurd (omega arith)
     go (Some ts) d z = (ts, d, z)
@@ -58,7 +58,7 @@ module _ {A : Type 0} (b key : Bytes) (f : List Tag → Bytes → Given A) where
   with_key_accepted z = go (decode_tags b) refl (fine_key key) refl z
     where
       go : (o : Option (List Tag)) → decode_tags b ≡ o → (t : Bool) → fine_key key ≡ t
-          → number_of (and_then (or_refuse 29 o) λ ts. and_then (cond t (Ok (lower key)) (Err BadKey)) λ k. f ts k) ≡ 0 → Accepted
+          → number_of (and_then (or_refuse NotATagList o) λ ts. and_then (cond t (Ok (lower key)) (Err BadKey)) λ k. f ts k) ≡ 0 → Accepted
       go None d t e z = absurd (omega arith)
       go (Some ts) d false e z = absurd (omega arith)
       go (Some ts) d true e z = record { tags = ts; decoded = d; fine = e; zero = z }

@@ -8,4 +8,4 @@ mod exchange;
 mod one;
 
 pub use exchange::{delete, set};
-pub use one::{GivenRemoval, insert, remove};
+pub use one::{insert, remove};

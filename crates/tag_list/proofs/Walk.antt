@@ -9,18 +9,18 @@ use native.Mathlib.Omega.{arith}
 use native.Mathlib.Nat.{add-zero}
 use native.Mathlib.Numerals.{add-one}
 use lib.ListN.{length, take, drop, get_or, length-append, drop_of_length-le}
-use lib.Seq.{drop-cons, take-suc}
+use lib.Seq.{take-length, drop-cons, take-suc}
 use Rattle.std.specs.declared.cmp.Ordering.TheVariants.{Less, Equal, Greater}
 use Rattle.model.specs.Bytes.{Bytes, compare_bytes}
 use Rattle.model.specs.Numbers.{number32}
 use Rattle.model.specs.Opening.{is_some}
-use Rattle.model.specs.TagList.{Tag, tag, max_tags, tag_count_length, tags_length, tag_bodies, keys_after, encode_tags, shown_tags, decode_tags}
+use Rattle.model.specs.TagList.{Tag, tag, max_tags, tag_count_length, tags_length, tag_bodies, tag_contents, keys_after, encode_tags, shown_tags, decode_tags}
 use Rattle.model.specs.TagOutcome.{parts_of, behind, parts_at}
 use Rattle.model.specs.TagStatements.{ValidTags}
 use Rattle.tag_list.specs.Parts.{parts_read, parts_end}
 use Rattle.tag_list.specs.Spot.{spot}
 use Rattle.tag_list.proofs.Bodies.{tag_bodies_append, length_tag_bodies}
-use Rattle.tag_list.proofs.Standing.{Stands, stands_first, length_encoded, count_encoded, encoded_stands}
+use Rattle.tag_list.proofs.Standing.{Stands, stands_first, length_contents, length_encoded, count_encoded, encoded_stands}
 use Rattle.tag_list.proofs.Coding.{tags_decoded, decode_is}
 
 -- b is the block of ts
@@ -195,4 +195,8 @@ module _ (b : Bytes) (d : is_some (decode_tags b) ≡ true) where
         let ts = shown_tags b in
         omega (arith, turn_bodies b ts i (keys_after (length ts) + length (tag_bodies (take i ts))) h (stands_from i (omega arith)))
 
-pub ruleset places = (list_size, list_count, list_few, no_bodies, bodies_within, place_end, place_parts, place_past)
+-- behind all of them
+pub contents_behind : (ts : List Tag) → length (tag_contents ts) ≡ keys_after (length ts) + length (tag_bodies (take (length ts) ts))
+contents_behind ts = rw (take-length ts) (length_contents ts)
+
+pub ruleset places = (list_size, list_count, list_few, no_bodies, bodies_within, place_end, place_parts, place_past, contents_behind)

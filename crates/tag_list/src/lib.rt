@@ -14,6 +14,6 @@ mod test;
 pub use finding::{Found, find};
 pub use key::Key;
 pub use look_up::{contains_key, counts, get, tag_place};
-pub use parts::key_start;
+pub use parts::contents_end;
 pub use sizes::{MAX_KEY, MAX_TAGS, MAX_VALUE, TAG_ENTRY_LENGTH, TAGS_LENGTH, entry_start};
 pub use test::check_list;

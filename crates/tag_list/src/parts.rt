@@ -1,7 +1,7 @@
 // Where a tag's key and value stand, by its entry and the place where its key begins, and so where the next key begins.
 ghost use Rattle.std.specs.Prelude.{◌≡◌, true, ◌+◌, ◌^◌, ◌<◌, ◌≤◌, length, take};
 ghost use Rattle.model.specs.Opening.{is_some};
-ghost use Rattle.model.specs.TagList.{keys_after, tag_bodies, shown_tags, decode_tags};
+ghost use Rattle.model.specs.TagList.{keys_after, tag_bodies, tag_contents, shown_tags, decode_tags};
 ghost use Rattle.tag_list.specs.Parts.{parts_read, parts_end};
 
 use crate::sizes::entry_start;
@@ -35,7 +35,7 @@ pub(crate) fn end_of(tag: TagParts) -> usize
 
 // Where the key of the tag at a place begins; for the count in the place's stead, where the last value ends.
 #[tactic(auto, using(crate::proofs::Walk::places))]
-pub fn key_start(list: &[u8], place: usize) -> usize
+pub(crate) fn key_start(list: &[u8], place: usize) -> usize
     requires { (is_some (decode_tags list.now) ≡ true) × (place ≤ length (shown_tags list.now)) }
     ensures { result ≡ keys_after (length (shown_tags list.now)) + length (tag_bodies (take place (shown_tags list.now))) }
 {
@@ -44,4 +44,13 @@ pub fn key_start(list: &[u8], place: usize) -> usize
         start = end_of(parts_of(list, i, start));
     }
     start
+}
+
+// Where the contents of a list end: behind the last value.
+#[tactic(auto, using(crate::proofs::Walk::places))]
+pub fn contents_end(list: &[u8]) -> usize
+    requires { is_some (decode_tags list.now) ≡ true }
+    ensures { result ≡ length (tag_contents (shown_tags list.now)) }
+{
+    key_start(list, read32(list, 0))
 }

@@ -8,5 +8,5 @@ pub returns : goal.returns
 returns c =
     let k = le32 c.args.key in
     let v = le32 c.args.value in
-    let None = replicate {A = ℕ} 8 0 in
-    c.write32.ensures.1 ∙ rw (c.write32-p.ensures.1, c.write32-p.ensures.0) (put_append None 0 k v (omega arith) ∙ put_whole None (k ++ v) refl)
+    let room = replicate {A = ℕ} 8 0 in
+    c.write32.ensures.1 ∙ rw (c.write32-p.ensures.1, c.write32-p.ensures.0, c.filled-entry.ensures) (put_append room 0 k v (omega arith) ∙ put_whole room (k ++ v) refl)

@@ -1,44 +1,46 @@
 -- The keys and values first, then the entries, then the count.
 use Rattle.std.proofs.Common.{arith}
-use Rattle.tag_list.proofs.Walk.{holds}
+use Rattle.tag_list.proofs.Walk.{list_size}
 use Rattle.tag_edits.proofs.Exchanging.{counts, first_fits, second_fits, third_fits, exchanges}
 use Rattle.tag_edits.proofs.exchange.exchange.Goals as goal
 
 pub read32-requires : goal.read32-requires
-read32-requires c = let h = holds c.args.list.now c.requires.listed in omega (arith, h.size)
+read32-requires c = omega (arith, list_size c.args.list.now c.requires.listed)
 
 pub overflow_sub-count : goal.overflow_sub-count
 overflow_sub-count c =
     let a = c.args in
-    omega (arith, (counts a.list.now a.place a.start a.held a.old a.entry.now a.t.now a.u.now c.requires c.read32.result c.read32.ensures.0).0)
+    omega (arith, (counts a.list.now a.gap a.entry.now a.t.now a.u.now c.requires c.read32.result c.read32.ensures.0).0)
 
 pub splice-requires : goal.splice-requires
 splice-requires c =
     let a = c.args in
     let end = c.contents_end-end in
-    first_fits a.list.now a.place a.start a.held a.old a.entry.now a.t.now a.u.now c.requires end.result end.ensures
+    first_fits a.list.now a.gap a.entry.now a.t.now a.u.now c.requires end.result end.ensures
 
 pub overflow_sub-end : goal.overflow_sub-end
 overflow_sub-end c =
     let a = c.args in
     let end = c.contents_end-end in
-    omega (arith, (first_fits a.list.now a.place a.start a.held a.old a.entry.now a.t.now a.u.now c.requires end.result end.ensures).0)
+    omega (arith, (first_fits a.list.now a.gap a.entry.now a.t.now a.u.now c.requires end.result end.ensures).0)
 
 pub splice-requires-2 : goal.splice-requires-2
 splice-requires-2 c =
     let a = c.args in
     let end = c.contents_end-end in
-    second_fits a.list.now a.place a.start a.held a.old a.entry.now a.t.now a.u.now c.requires end.result end.ensures c.splice.new.b c.splice.ensures
+    rw c.entry_start.ensures (second_fits a.list.now a.gap a.entry.now a.t.now a.u.now c.requires end.result end.ensures c.splice.new.b c.splice.ensures)
 
 pub write32-requires : goal.write32-requires
 write32-requires c =
     let a = c.args in
     let end = c.contents_end-end in
-    third_fits a.list.now a.place a.start a.held a.old a.entry.now a.t.now a.u.now c.requires end.result end.ensures c.splice.new.b c.splice.ensures c.splice-2.new.b c.splice-2.ensures
+    let e = rw c.entry_start.ensures at c.splice-2.ensures in
+    third_fits a.list.now a.gap a.entry.now a.t.now a.u.now c.requires end.result end.ensures c.splice.new.b c.splice.ensures c.splice-2.new.b e
 
 pub returns : goal.returns
 returns c =
     let a = c.args in
     let end = c.contents_end-end in
-    let counted = counts a.list.now a.place a.start a.held a.old a.entry.now a.t.now a.u.now c.requires c.read32.result c.read32.ensures.0 in
-    exchanges a.list.now a.place a.start a.held a.old a.entry.now a.t.now a.u.now c.requires end.result end.ensures c.splice.new.b c.splice.ensures c.splice-2.new.b c.splice-2.ensures _ counted.1 c.write32.new.b c.write32.ensures.1
+    let counted = counts a.list.now a.gap a.entry.now a.t.now a.u.now c.requires c.read32.result c.read32.ensures.0 in
+    let e = rw c.entry_start.ensures at c.splice-2.ensures in
+    exchanges a.list.now a.gap a.entry.now a.t.now a.u.now c.requires end.result end.ensures c.splice.new.b c.splice.ensures c.splice-2.new.b e _ counted.1 c.write32.new.b c.write32.ensures.1
