@@ -36,6 +36,17 @@ next x Integer = cond (is_one_of signs x) (Some UnsignedInteger) (after_digit x 
 next x UnsignedInteger = after_digit x Digits
 next x Digits = after_digit x Digits
 
+-- the state after a digit
+abbrev pub digit_after : Number → Number
+digit_after Float = Whole
+digit_after Unsigned = Whole
+digit_after Whole = Whole
+digit_after Point = Fraction
+digit_after Fraction = Fraction
+digit_after Integer = Digits
+digit_after UnsignedInteger = Digits
+digit_after Digits = Digits
+
 -- whether a number may end in a state
 abbrev pub ends : Number → Bool
 ends Float = false

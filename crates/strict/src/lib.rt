@@ -1,6 +1,7 @@
 // The strict reading of a line: `H`, then typed fields, each with a value as its type asks, and no tag twice.
 #![tactic(auto)]
 
+mod class;
 mod line;
 mod number;
 mod tag;

@@ -1,6 +1,8 @@
 // Numbers as the specification writes them, read byte by byte in one pass.
 ghost use Rattle.std.specs.Prelude.{◌≡◌};
-ghost use Rattle.strict.specs.Number.{next, ends, run};
+ghost use Rattle.strict.specs.Number.{digit_after, next, ends, run};
+
+use crate::class::Class;
 
 // What has been read of a number: nothing yet, its sign, digits before the point, the point, digits after it; of an integer, as it stands
 // behind an `e` too: nothing yet, its sign, digits.
@@ -17,20 +19,29 @@ pub(crate) enum Number {
 }
 
 impl Number {
+    // The state after a digit.
+    fn after_digit(self) -> Number
+        ensures { result ≡ digit_after self }
+    {
+        match self {
+            Number::Float | Number::Unsigned | Number::Whole => Number::Whole,
+            Number::Point | Number::Fraction => Number::Fraction,
+            Number::Integer | Number::UnsignedInteger | Number::Digits => Number::Digits,
+        }
+    }
+
     // The state after one more byte, if that may stand here.
     fn after(self, x: u8) -> Option<Number>
         ensures { result ≡ next x self }
     {
+        if Class::Digit.holds(x) {
+            return Some(self.after_digit());
+        }
         match (self, x) {
             (Number::Float, b'-' | b'+') => Some(Number::Unsigned),
-            (Number::Float | Number::Unsigned | Number::Whole, b'0'..=b'9') => Some(Number::Whole),
             (Number::Float | Number::Unsigned | Number::Whole, b'.') => Some(Number::Point),
-            (Number::Point | Number::Fraction, b'0'..=b'9') => Some(Number::Fraction),
             (Number::Whole | Number::Fraction, b'e' | b'E') => Some(Number::Integer),
             (Number::Integer, b'-' | b'+') => Some(Number::UnsignedInteger),
-            (Number::Integer | Number::UnsignedInteger | Number::Digits, b'0'..=b'9') => Some(
-                Number::Digits,
-            ),
             _ => None,
         }
     }

@@ -3,20 +3,22 @@ ghost use Rattle.std.specs.Prelude.{◌≡◌, ◌||◌};
 ghost use Rattle.std.specs.List.{list_all};
 ghost use Rattle.model.specs.Strict.{digit, hex_letter, printable, matches, value_of, fine_field};
 
+use crate::class::Class;
 use crate::number::Number;
 
 // Whether each byte of v is one of the space to ~.
 fn is_printable(v: &[u8]) -> bool
     ensures { result ≡ list_all printable v.now }
 {
-    v.iter().all(|x| matches!(x, b' '..=b'~'))
+    v.iter().all(|x| Class::Printable.holds(*x))
 }
 
 // Whether each byte of v is a digit or one of A to F.
 fn is_hex(v: &[u8]) -> bool
     ensures { result ≡ list_all (λ x. digit x || hex_letter x) v.now }
 {
-    v.iter().all(|x| matches!(x, b'0'..=b'9' | b'A'..=b'F'))
+    v.iter()
+        .all(|x| Class::Digit.holds(*x) || Class::HexLetter.holds(*x))
 }
 
 // Whether v is a list of numbers: the letter of their width, then a comma before each.
@@ -41,7 +43,7 @@ pub fn fine_value(t: u8, v: &[u8]) -> bool
     ensures { result ≡ matches (value_of t) v.now }
 {
     match t {
-        b'A' => matches!(v, [b'!'..=b'~']),
+        b'A' => matches!(v, [x] if Class::Visible.holds(*x)),
         b'i' => Number::Integer.accepts(v),
         b'f' => Number::Float.accepts(v),
         b'Z' | b'J' => !v.is_empty() && is_printable(v),
@@ -58,7 +60,7 @@ pub fn fine_field(f: &[u8]) -> bool
 {
     match f {
         [x, y, b':', t, b':', v @ ..] => {
-            x.is_ascii_alphabetic() && y.is_ascii_alphabetic() && fine_value(*t, v)
+            Class::Letter.holds(*x) && Class::Letter.holds(*y) && fine_value(*t, v)
         }
         _ => false,
     }
