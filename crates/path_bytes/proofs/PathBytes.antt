@@ -1,38 +1,37 @@
 -- The bytes of a path, step by step: one name more at the end; and the path to a place, by the place before it.
 use mathlib.Core.Path.{◌≡◌, refl, ap, ◌∙◌}
 use mathlib.Core.List.{List, [], ◌∷◌, ◌++◌, append_assoc, map-append}
-use Prim.Native.Nat.{ℕ, ◌+◌, ◌*◌, ◌/◌, ◌%◌, ◌≤◌, ◌<◌}
-use native.Mathlib.Decide.{dec_lt}
+use Prim.Native.Nat.{ℕ, ◌+◌, ◌*◌, ◌%◌, ◌≤◌, ◌<◌}
 use native.Mathlib.Omega.{arith}
+use Rattle.std.specs.Prelude.{Option, Some, None}
 use lib.ListN.{length, length-append}
-use borrow.Author.Tests.{lt-ltb, le-ltb}
+use Rattle.model.specs.declared.Kind.{Kind}
 use Rattle.model.specs.Bytes.{Bytes}
 use Rattle.model.specs.Numbers.{le16}
-use Rattle.model.specs.Path.{Step, kind_number, path_entries, path_bodies, path_bytes}
-use Rattle.search.specs.Steps.{max_nodes, max_moves}
+use Rattle.model.specs.Path.{Step, path_entries, path_bodies, path_bytes}
+use Rattle.search.specs.Steps.{max_nodes}
 use Rattle.search.specs.Queue.{node_at, prev_at, move_at}
 use Rattle.search.specs.Promise.{path_to, Back}
-use Rattle.search.specs.Spans.{span_lengths, name_by}
-use Rattle.search.specs.Names.{kind_of, step_of}
+use Rattle.search.specs.Names.{step_of}
 use Rattle.search.proofs.Walk.{path_first}
 use Rattle.search.proofs.Reading.{back_step}
 use Rattle.path_bytes.specs.Layout.{entry_length, entry_at}
-use Rattle.path_bytes.specs.Written.{entries_with, path_back, start_name, bodies_to}
+use Rattle.path_bytes.specs.Written.{step_number, entries_with, path_back, start_name, bodies_to}
 
 -- ------------------------------------------------------------------ entries and bodies
 
-pub entries_snoc : (k : ℕ) (a : Bytes) (ss : List Step) (s : Step)
-    → entries_with k a (ss ++ (s ∷ [])) ≡ entries_with (kind_number s.kind) a ss ++ (le16 (length s.next) ++ le16 k)
+pub entries_snoc : (k : Option Kind) (a : Bytes) (ss : List Step) (s : Step)
+    → entries_with k a (ss ++ (s ∷ [])) ≡ entries_with (Some s.kind) a ss ++ (le16 (length s.next) ++ le16 (step_number k))
 unfolding entries_with
 entries_snoc k a [] s = refl
 entries_snoc k a (t ∷ ss) s = rw (entries_snoc k t.next ss s) (simp append_assoc)
 
-pub length_entries : (k : ℕ) (a : Bytes) (ss : List Step) → length (entries_with k a ss) ≡ entry_length * (length ss + 1)
+pub length_entries : (k : Option Kind) (a : Bytes) (ss : List Step) → length (entries_with k a ss) ≡ entry_length * (length ss + 1)
 unfolding entries_with
 length_entries k a [] = refl
 length_entries k a (s ∷ ss) = omega (arith, length_entries k s.next ss)
 
-pub entries_path : (a : Bytes) (ss : List Step) → path_entries a ss ≡ entries_with 2 a ss
+pub entries_path : (a : Bytes) (ss : List Step) → path_entries a ss ≡ entries_with None a ss
 unfolding entries_with path_entries
 entries_path a [] = refl
 entries_path a (s ∷ ss) = rw (entries_path s.next ss)
@@ -44,15 +43,7 @@ bodies_snoc a (t ∷ ss) s = rw (bodies_snoc t.next ss s) (simp append_assoc)
 
 pub length_path : (a : Bytes) (ss : List Step) → length (path_bytes a ss) ≡ entry_at (length ss + 1) + length (path_bodies a ss)
 unfolding path_bytes
-length_path a ss = simp length-append (omega (arith, ap length (entries_path a ss), length_entries 2 a ss))
-
--- the kind of a move, as a number
-pub number_kind : (m : ℕ) → m < max_moves → kind_number (kind_of m) ≡ m / max_nodes
-number_kind m l = go (dec_lt m max_nodes)
-  where
-    go : Dec (m < max_nodes) → kind_number (kind_of m) ≡ m / max_nodes
-    go (yes s) = rw (lt-ltb m max_nodes s) (omega arith)
-    go (no s) = rw (le-ltb m max_nodes (omega arith)) (omega arith)
+length_path a ss = simp length-append (omega (arith, ap length (entries_path a ss), length_entries None a ss))
 
 -- the node that the last move leads to
 pub node_last : (q : List ℕ) (j : ℕ) → move_at q j % max_nodes ≡ node_at q j
@@ -60,43 +51,45 @@ node_last q j = omega arith
 
 -- ------------------------------------------------------------------ the path to a place
 
-module _ (b c : Bytes) (spans q : List ℕ) where
-  pub no_steps : path_back b c spans q 0 ≡ []
+module _ (name : ℕ → Bytes) (q : List ℕ) where
+  pub no_steps : path_back name q 0 ≡ []
   no_steps = rw (path_first q)
 
-  pub bodies_first : bodies_to b c spans q 0 ≡ length (start_name b c spans q)
+  pub bodies_first : bodies_to name q 0 ≡ length (start_name name q)
   unfolding path_bodies
   bodies_first = rw no_steps
 
   module _ (place : ℕ) (back : Back q place) (j : ℕ) (z : 0 < j) (l : j ≤ place) where
-    pub path_last : path_back b c spans q j ≡ path_back b c spans q (prev_at q j) ++ (step_of (name_by b c spans) (move_at q j) ∷ [])
-    path_last = rw (back_step q place back j z l) (map-append (step_of (name_by b c spans)) (path_to q (prev_at q j)) (move_at q j ∷ []))
+    pub path_last : path_back name q j ≡ path_back name q (prev_at q j) ++ (step_of name (move_at q j) ∷ [])
+    path_last = rw (back_step q place back j z l) (map-append (step_of name) (path_to q (prev_at q j)) (move_at q j ∷ []))
 
-    pub bodies_last : path_bodies (start_name b c spans q) (path_back b c spans q j)
-        ≡ path_bodies (start_name b c spans q) (path_back b c spans q (prev_at q j)) ++ name_by b c spans (node_at q j)
-    bodies_last = rw path_last (bodies_snoc (start_name b c spans q) (path_back b c spans q (prev_at q j)) (step_of (name_by b c spans) (move_at q j)) ∙ rw (node_last q j))
+    pub bodies_last : path_bodies (start_name name q) (path_back name q j)
+        ≡ path_bodies (start_name name q) (path_back name q (prev_at q j)) ++ name (node_at q j)
+    bodies_last = rw path_last (bodies_snoc (start_name name q) (path_back name q (prev_at q j)) (step_of name (move_at q j)) ∙ rw (node_last q j))
 
-    pub bodies_step : bodies_to b c spans q j ≡ bodies_to b c spans q (prev_at q j) + length (name_by b c spans (node_at q j))
+    pub bodies_step : bodies_to name q j ≡ bodies_to name q (prev_at q j) + length (name (node_at q j))
     bodies_step = rw bodies_last (simp length-append)
 
 -- ------------------------------------------------------------------ how long the names are together
 
 -- after so many bytes of names, the path to place j is left
-pub record Adding (b c : Bytes) (spans q : List ℕ) (place j total : ℕ) : Type 0 where
+pub record Adding (name : ℕ → Bytes) (q : List ℕ) (place j total : ℕ) : Type 0 where
   pub low : j ≤ place
-  pub bound : total + span_lengths * j ≤ span_lengths * place
-  pub left : total + bodies_to b c spans q j ≡ bodies_to b c spans q place
+  pub bound : total + 65536 * j ≤ 65536 * place
+  pub left : total + bodies_to name q j ≡ bodies_to name q place
 
-module _ (b c : Bytes) (spans q : List ℕ) (place : ℕ) (back : Back q place) where
-  module _ (j total : ℕ) (a : Adding b c spans q place j total) (name : Bytes) where
-    pub adding_step : name ≡ name_by b c spans (node_at q j) → length name < span_lengths → 0 < j → Adding b c spans q place (prev_at q j) (total + length name)
-    adding_step is s z =
+module _ (name : ℕ → Bytes) (q : List ℕ) (place : ℕ) (back : Back q place) where
+  module _ (j total : ℕ) (a : Adding name q place j total) (last : Bytes) (is : last ≡ name (node_at q j)) where
+    pub adding_step : length last < 65536 → 0 < j → Adding name q place (prev_at q j) (total + length last)
+    adding_step s z =
         let f = back.falls j z a.low in
         record {
           low = omega (arith, a.low);
           bound = omega (arith, a.bound);
-          left = omega (arith, a.left, ap length is, bodies_step b c spans q place back j z a.low);
+          left = omega (arith, a.left, ap length is, bodies_step name q place back j z a.low);
         }
 
-    pub adding_end : name ≡ start_name b c spans q → j ≡ 0 → total + length name ≡ bodies_to b c spans q place
-    adding_end is z = omega (arith, a.left, ap length is, ap (bodies_to b c spans q) z, bodies_first b c spans q)
+    pub adding_end : j ≡ 0 → total + length last ≡ bodies_to name q place
+    adding_end z =
+        let first : last ≡ start_name name q = is ∙ ap (λ (i : ℕ). name (node_at q i)) z in
+        omega (arith, a.left, ap length first, ap (bodies_to name q) z, bodies_first name q)

@@ -1,6 +1,7 @@
 -- What stands in the bytes of a path is the path: its first name, and its steps.
 use mathlib.Core.Path.{◌≡◌, refl, sym, ap, ◌∙◌}
 use mathlib.Core.List.{List, [], ◌∷◌, ◌++◌, append_assoc}
+use Rattle.std.specs.Prelude.{None}
 use Prim.Native.Nat.{ℕ, suc, ◌+◌, ◌-◌, ◌≤◌, ◌<◌}
 use native.Mathlib.Omega.{arith}
 use native.Mathlib.Nat.{add-zero}
@@ -108,7 +109,7 @@ module _ (p a : Bytes) (ss : List Step) (rest : Bytes) (d : p ≡ path_bytes a s
     bodies =
         ap (drop (bodies_at p)) (d ∙ append_assoc (le16 (suc (length ss)) ++ path_entries a ss) (path_bodies a ss) rest)
         ∙ drop_at (le16 (suc (length ss)) ++ path_entries a ss) (path_bodies a ss ++ rest) (bodies_at p)
-        (omega (arith, count_read, ap length (entries_path a ss), length_entries 2 a ss));
+        (omega (arith, count_read, ap length (entries_path a ss), length_entries None a ss));
     few = omega (arith, total);
   }
 

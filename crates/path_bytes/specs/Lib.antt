@@ -3,3 +3,4 @@ pub mod Layout
 pub mod Written
 pub mod Replies
 pub mod Reading
+pub mod Steps

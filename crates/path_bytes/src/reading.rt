@@ -1,31 +1,14 @@
-// Where the parts of a path's bytes stand, and what they say.
+// What stands in a path's bytes: its first name, and its steps one by one.
 ghost use Rattle.std.specs.Prelude.{◌≡◌, ◌+◌, ◌≤◌, ◌<◌, length};
-ghost use Rattle.path_bytes.specs.Layout.{first_entry, entry_length, entry_at, name_count, name_length, step_kind};
+ghost use Rattle.path_bytes.specs.Layout.{first_entry, entry_length, name_count, name_length, step_kind};
+ghost use Rattle.path_bytes.specs.Reading.{kind_numbered, StepsIn, PathIn, start_at, path_steps};
 
-use crate::{ENTRY_LENGTH, FIRST_ENTRY};
-use text::read16;
-
-// Where the kind stands in an entry.
-pub(crate) const KIND_IN_ENTRY: usize = 2;
-
-// Where the entry of a name stands, by its place on the path.
-pub(crate) fn entry_at(i: usize) -> usize
-    requires { i < 65536 }
-    ensures { result ≡ entry_at i }
-{
-    FIRST_ENTRY + ENTRY_LENGTH * i
-}
-
-// Where the bodies of so many names begin: where the entry after the last would.
-pub fn bodies_at(count: usize) -> usize
-    requires { count < 65536 }
-    ensures { result ≡ entry_at count }
-{
-    entry_at(count)
-}
+use crate::layout::{ENTRY_LENGTH, FIRST_ENTRY, KIND_IN_ENTRY, entry_at};
+use model::Kind;
+use text::{part, read16};
 
 // How many names a path has.
-pub fn name_count(path: &[u8]) -> usize
+fn name_count(path: &[u8]) -> usize
     requires { first_entry ≤ length path.now }
     ensures { (result ≡ name_count path.now) × (result < 65536) }
 {
@@ -33,7 +16,7 @@ pub fn name_count(path: &[u8]) -> usize
 }
 
 // How long the name is whose entry stands at this byte.
-pub fn name_length(path: &[u8], entry: usize) -> usize
+fn name_length(path: &[u8], entry: usize) -> usize
     requires { entry + entry_length ≤ length path.now }
     ensures { (result ≡ name_length path.now entry) × (result < 65536) }
 {
@@ -41,9 +24,86 @@ pub fn name_length(path: &[u8], entry: usize) -> usize
 }
 
 // The kind of the step that leaves the name whose entry stands at this byte.
-pub fn step_kind(path: &[u8], entry: usize) -> usize
+fn step_kind(path: &[u8], entry: usize) -> Kind
     requires { entry + entry_length ≤ length path.now }
-    ensures { (result ≡ step_kind path.now entry) × (result < 65536) }
+    ensures { result ≡ kind_numbered (step_kind path.now entry) }
 {
-    read16(path, entry + KIND_IN_ENTRY)
+    match read16(path, entry + KIND_IN_ENTRY) {
+        0 => Kind::Subgraph,
+        _ => Kind::Translation,
+    }
+}
+
+// A step of a path: the name that it leaves, and its kind.
+#[derive(Clone, Copy)]
+pub struct StepFrom<'a> {
+    pub name: &'a [u8],
+    pub kind: Kind,
+}
+
+// A run of a path's steps: where the entry and the body of the name that the first one leaves stand in its bytes, and how many there are.
+#[derive(Clone, Copy)]
+pub struct Steps<'a> {
+    path: &'a [u8],
+    entry: usize,
+    body: usize,
+    count: usize,
+    ghost here: { StepsIn path.now entry body count },
+}
+
+impl<'a> Iterator for Steps<'a> {
+    ghost use Rattle.std.specs.Iterator.{YieldsFirstBy, item_count};
+    ghost use Rattle.path_bytes.specs.Steps.{step_of, steps_of};
+
+    type Item = StepFrom<'a>;
+
+    ghost next_gives = { YieldsFirstBy step_of steps_of };
+
+    ghost remaining = { item_count steps_of };
+
+    #[tactic(auto, using(crate::proofs::Stepping::read))]
+    fn next(&mut self) -> Option<StepFrom<'a>> {
+        if self.count == 0 {
+            return None;
+        }
+        let size = name_length(self.path, self.entry);
+        let step = StepFrom {
+            name: part(self.path, self.body, size),
+            kind: step_kind(self.path, self.entry),
+        };
+        *self = Steps {
+            path: self.path,
+            entry: self.entry + ENTRY_LENGTH,
+            body: self.body + size,
+            count: self.count - 1,
+        };
+        Some(step)
+    }
+}
+
+impl<'a> Steps<'a> {
+    ghost use Rattle.path_bytes.specs.Steps.{steps_of};
+
+    // Those of a whole path.
+    pub fn of(path: &'a [u8]) -> Steps<'a>
+        requires { PathIn path.now }
+        ensures { steps_of result ≡ path_steps path.now }
+    {
+        let count = name_count(path);
+        Steps {
+            path,
+            entry: FIRST_ENTRY,
+            body: entry_at(count),
+            count: count - 1,
+        }
+    }
+}
+
+// The first name of a path.
+pub fn path_start(path: &[u8]) -> &[u8]
+    requires { PathIn path.now }
+    ensures { result.now ≡ start_at path.now }
+{
+    let bodies = entry_at(name_count(path));
+    part(path, bodies, name_length(path, FIRST_ENTRY))
 }

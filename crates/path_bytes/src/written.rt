@@ -3,111 +3,117 @@ ghost use Rattle.std.specs.Prelude.{◌≡◌, ◌++◌, ◌+◌, ◌*◌, ◌�
 ghost use Rattle.model.specs.Bytes.{put};
 ghost use Rattle.model.specs.Numbers.{le16};
 ghost use Rattle.search.specs.Steps.{max_nodes};
-ghost use Rattle.search.specs.Queue.{node_at};
-ghost use Rattle.search.specs.Spans.{span_lengths, name_by};
+ghost use Rattle.search.specs.Queue.{node_at, prev_at, move_at};
+ghost use Rattle.search.specs.Names.{kind_of};
+ghost use Rattle.search.specs.Spans.{named};
 ghost use Rattle.path_bytes.specs.Layout.{entry_at};
-ghost use Rattle.path_bytes.specs.Written.{bodies_to, Readback, Writable, NamesWritten, PathWritten};
+ghost use Rattle.path_bytes.specs.Written.{step_number, bodies_to, Readback, Writable, NamesWritten, PathWritten};
 
-use crate::reading::{KIND_IN_ENTRY, bodies_at, entry_at};
-use search::{MAX_MOVES, MAX_NODES, name_of, path_length};
+use crate::layout::{KIND_IN_ENTRY, entry_at};
+use model::{Fault, Kind};
+use search::{Names, Step, path_length};
 use text::{copy, write16};
 
-// The number for the kind in the last entry, since no step leaves the last name.
-const NO_STEP: usize = 2;
-
-// The name of the node at a place.
-fn name_at<'a>(
-    first: &'a [u8],
-    second: &'a [u8],
-    spans: &[u32],
-    queue: &[u32],
-    place: usize,
-) -> &'a [u8]
-    requires { (place < length queue.now) × (node_at queue.now place < length spans.now) }
-    ensures { (result.now ≡ name_by first.now second.now spans.now (node_at queue.now place)) × (length result.now < span_lengths) }
+// The number for the kind of a name's step in its entry; no step leaves the last name.
+fn step_number(kind: Option<Kind>) -> usize
+    ensures { result ≡ step_number kind }
 {
-    let node = (queue[place] % MAX_NODES) as usize;
-    name_of(first, second, spans[node])
+    match kind {
+        Some(kind) => u32::from(kind) as usize,
+        None => 2,
+    }
 }
 
 // Writes the entry of the name at this step: its length and its step's kind.
-fn put_entry(out: &mut [u8], step: usize, size: usize, kind: usize)
+#[tactic(auto, using(text::proofs::Put::put_append))]
+fn put_entry(out: &mut [u8], step: usize, size: usize, kind: Option<Kind>)
     requires { (step < max_nodes) × (entry_at (step + 1) ≤ length out.old) }
-    ensures { out.new ≡ put out.old (entry_at step) (le16 size ++ le16 kind) }
+    ensures { out.new ≡ put out.old (entry_at step) (le16 size ++ le16 (step_number kind)) }
 {
     let entry = entry_at(step);
     write16(out, entry, size);
-    write16(out, entry + KIND_IN_ENTRY, kind);
+    write16(out, entry + KIND_IN_ENTRY, step_number(kind));
 }
 
-// How long the names of the path to a place are together.
-fn bodies_length<'a>(
-    first: &'a [u8],
-    second: &'a [u8],
-    spans: &[u32],
-    queue: &[u32],
-    place: usize,
-) -> usize
-    requires { Readback spans.now queue.now place }
-    ensures { (result ≡ bodies_to first.now second.now spans.now queue.now place) × (result < span_lengths * max_nodes) }
-{
-    let mut j = place;
-    let mut total = 0;
-    while 0 < j {
-        total += name_at(first, second, spans, queue, j).len();
-        j = (queue[j] / MAX_MOVES) as usize;
-    }
-    total + name_at(first, second, spans, queue, 0).len()
+// The path to a place of a search's queue.
+#[derive(Clone, Copy)]
+pub(crate) struct FoundPath<'a> {
+    pub names: Names<'a>,
+    pub queue: &'a [Step],
+    pub place: usize,
 }
 
-// Writes the names of the path to a place, this many steps from the first: their entries, the last with `kind`, and their bodies from
-// byte `at` on. Gives the place behind them.
-fn put_names<'a>(
-    first: &'a [u8],
-    second: &'a [u8],
-    spans: &[u32],
-    queue: &[u32],
-    place: usize,
-    step: usize,
-    kind: usize,
-    out: &mut [u8],
-    at: usize,
-) -> usize
-    requires { Writable first.now second.now spans.now queue.now place step out.old at }
-    ensures { NamesWritten first.now second.now spans.now queue.now place out.old at kind result out.new }
-{
-    let name = name_at(first, second, spans, queue, place);
-    if step == 0 {
-        put_entry(out, 0, name.len(), kind);
-        return copy(out, at, name);
+impl<'a> FoundPath<'a> {
+    // Its last name.
+    fn name(self) -> &'a [u8]
+        requires { (self.place < length self.queue.now) × (node_at self.queue.now self.place < length self.names.spans.now) }
+        ensures { (result.now ≡ named self.entry.names (node_at self.entry.queue.now self.entry.place)) × (length result.now < 65536) }
+    {
+        self.names.name(self.queue[self.place].to())
     }
-    let entry = queue[place];
-    let prev = (entry / MAX_MOVES) as usize;
-    let before = (entry % MAX_MOVES / MAX_NODES) as usize;
-    let end = put_names(first, second, spans, queue, prev, step - 1, before, out, at);
-    put_entry(out, step, name.len(), kind);
-    copy(out, end, name)
-}
 
-// Writes the bytes of the path to a place, if there is room for them; says whether there is.
-pub(crate) fn put_path<'a>(
-    first: &'a [u8],
-    second: &'a [u8],
-    spans: &[u32],
-    queue: &[u32],
-    place: usize,
-    out: &mut [u8],
-) -> bool
-    requires { Readback spans.now queue.now place }
-    ensures { PathWritten first.now second.now spans.now queue.now place out.old result out.new }
-{
-    let step = path_length(queue, place);
-    let count = step + 1;
-    let at = bodies_at(count);
-    if out.len() < at + bodies_length(first, second, spans, queue, place) {
-        return false;
+    // The kind of its last step.
+    fn last_kind(self) -> Kind
+        requires { self.place < length self.queue.now }
+        ensures { result ≡ kind_of (move_at self.entry.queue.now self.entry.place) }
+    {
+        self.queue[self.place].kind()
     }
-    write16(out, 0, count);
-    put_names(first, second, spans, queue, place, step, NO_STEP, out, at);
-    true
+
+    // The path without its last step.
+    fn before(self) -> FoundPath<'a>
+        requires { self.place < length self.queue.now }
+        ensures { (result.names ≡ self.entry.names) × (result.queue ≡ self.entry.queue) × (result.place ≡ prev_at self.entry.queue.now self.entry.place) }
+    {
+        FoundPath {
+            place: self.queue[self.place].from(),
+            ..self
+        }
+    }
+
+    // How long its names are together.
+    fn bodies_length(self) -> usize
+        requires { Readback (length self.names.spans.now) self.queue.now self.place }
+        ensures { (result ≡ bodies_to (named self.entry.names) self.entry.queue.now self.entry.place) × (result < 65536 * max_nodes) }
+    {
+        let mut path = self;
+        let mut total = 0;
+        while 0 < path.place {
+            total += path.name().len();
+            path = path.before();
+        }
+        total + path.name().len()
+    }
+
+    // Writes its names, this many steps from the first: their entries, the last with `kind`, and their bodies from byte `at` on. Gives the
+    // place behind them.
+    fn put_names(self, step: usize, kind: Option<Kind>, out: &mut [u8], at: usize) -> usize
+        requires { Writable (named self.names) (length self.names.spans.now) self.queue.now self.place step out.old at }
+        ensures { NamesWritten (named self.entry.names) self.entry.queue.now self.entry.place out.old at kind result out.new }
+    {
+        let name = self.name();
+        if step == 0 {
+            put_entry(out, 0, name.len(), kind);
+            return copy(out, at, name);
+        }
+        let last = Some(self.last_kind());
+        let end = self.before().put_names(step - 1, last, out, at);
+        put_entry(out, step, name.len(), kind);
+        copy(out, end, name)
+    }
+
+    // Writes its bytes to the front of an output, if there is room for them.
+    pub(crate) fn write(self, out: &mut [u8]) -> Result<(), Fault>
+        requires { Readback (length self.names.spans.now) self.queue.now self.place }
+        ensures { PathWritten (named self.entry.names) self.entry.queue.now self.entry.place out.old result out.new }
+    {
+        let step = path_length(self.queue, self.place);
+        let at = entry_at(step + 1);
+        if out.len() < at + self.bodies_length() {
+            return Err(Fault::OutputShort);
+        }
+        write16(out, 0, step + 1);
+        self.put_names(step, None, out, at);
+        Ok(())
+    }
 }

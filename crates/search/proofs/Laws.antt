@@ -6,7 +6,6 @@ use mathlib.Core.List.{List}
 use Rattle.std.specs.Prelude.{Option, Some, None}
 use Prim.Native.Nat.{ℕ, ◌+◌, ◌≤◌, ◌<◌}
 use native.Mathlib.Omega.{arith}
-use lib.ListN.{length}
 use Rattle.std.proofs.lemmas.Option.{none-some}
 use Rattle.search.specs.declared.Searched.{Searched}
 use Rattle.search.specs.Steps.{Moves, IsPath, Earlier, Best}
@@ -42,5 +41,5 @@ module _ (R : Moves) (size from target : ℕ) (q : List ℕ) (places : List (Opt
       go None e h = h
 
   -- every found place can be walked back from
-  pub leads_back : size ≤ length q → (j : ℕ) → j < r.found → Back q j
-  leads_back room j l = record { inside = omega (arith, s.count.1); falls = λ i z m. s.falls i z (omega arith) }
+  pub leads_back : (j : ℕ) → j < r.found → Back q j
+  leads_back j l = record { inside = omega (arith, s.count.1, s.queue_long); falls = λ i z m. s.falls i z (omega arith) }

@@ -86,6 +86,7 @@ module _ (R : Moves) (from target : ℕ) where
       start = (omega arith, s.first_is);
       count = (omega arith, few);
       falls = s.state.tree.falls;
+      queue_long = s.state.room.queue ∙ s.size_is;
       places_long = s.size_is;
       seats = s.state.seats;
     }
@@ -103,6 +104,7 @@ module _ (R : Moves) (from target : ℕ) where
       start = (omega (arith, s.state.tree.some), s.first_is);
       count = (s.sofar, few);
       falls = s.state.tree.falls;
+      queue_long = s.state.room.queue ∙ s.size_is;
       places_long = s.size_is;
       seats = s.state.seats;
     }

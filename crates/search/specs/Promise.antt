@@ -60,5 +60,6 @@ pub record SearchedFrom (R : Moves) (size from target : ℕ) (q : List ℕ) (pla
   -- the predecessors lead back to the first place
   pub falls : (j : ℕ) → 0 < j → j < r.found → prev_at q j < j
   -- where each found node stands
+  pub queue_long : length q ≡ size
   pub places_long : length places ≡ size
   pub seats : Places q places r.found

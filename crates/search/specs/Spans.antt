@@ -2,6 +2,7 @@
 use Rattle.std.specs.Prelude.{cond, List, ℕ, ◌-◌, length, take, drop, get_or, ltb}
 use Rattle.model.specs.Bytes.{Bytes}
 use Rattle.search.specs.declared.names.Span.{Span}
+use Rattle.search.specs.declared.names.Names.{Names}
 
 -- the part that a span stands for: of whichever it begins in
 unfoldable pub spanned : Bytes → Bytes → Span → Bytes
@@ -14,3 +15,7 @@ no_span = record { start = 0; size = 0 }
 -- the name of a node, by the table of spans
 abbrev pub name_by : Bytes → Bytes → List Span → ℕ → Bytes
 name_by b c spans v = spanned b c (get_or spans v no_span)
+
+-- by the names as the code has them
+abbrev pub named : Names → ℕ → Bytes
+named n v = name_by n.first.now n.second.now n.spans.now v

@@ -1,6 +1,6 @@
 // The names of the nodes: parts of two lent slices, counted through the first and on through the second.
 ghost use Rattle.std.specs.Prelude.{◌≡◌, ◌<◌, length};
-ghost use Rattle.search.specs.Spans.{spanned, name_by};
+ghost use Rattle.search.specs.Spans.{spanned, named};
 
 use text::part;
 
@@ -38,7 +38,7 @@ impl<'a> Names<'a> {
     // The name of a node.
     pub fn name(self, node: usize) -> &'a [u8]
         requires { node < length self.spans.now }
-        ensures { (result.now ≡ name_by self.entry.first.now self.entry.second.now self.entry.spans.now node) × (length result.now < 65536) }
+        ensures { (result.now ≡ named self.entry node) × (length result.now < 65536) }
     {
         self.spans[node].of(self.first, self.second)
     }

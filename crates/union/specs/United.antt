@@ -4,7 +4,7 @@ use Rattle.model.specs.Bytes.{Bytes}
 use Rattle.model.specs.Record.{GraphName, names}
 use Rattle.search.specs.declared.names.Span.{Span}
 use Rattle.search.specs.declared.names.Names.{Names}
-use Rattle.search.specs.Spans.{name_by}
+use Rattle.search.specs.Spans.{named}
 use Rattle.search.specs.Names.{StepTable}
 use Rattle.union.specs.declared.graph.United.{United}
 use Rattle.union.specs.declared.steps.Question.{Question}
@@ -24,14 +24,10 @@ pub record Unitable (g h : GraphName) (rows : List ℕ) (spans : List Span) (num
   pub numbers_room : names_of_both g h ≤ length numbers
   pub steps_room : pairs_of_two g h ≤ length steps
 
--- the name of a node
-abbrev pub name_in : Names → ℕ → Bytes
-name_in n v = name_by n.first.now n.second.now n.spans.now v
-
 -- each name of a list has a node
 pub record NodesOf (ns : List Bytes) (numbers : List ℕ) (n : Names) : Type 0 where
   pub room : length ns ≤ length numbers
-  pub nodes : (p : ℕ) → p < length ns → (get_or numbers p 0 < length n.spans.now) × (name_in n (get_or numbers p 0) ≡ get_or ns p [])
+  pub nodes : (p : ℕ) → p < length ns → (get_or numbers p 0 < length n.spans.now) × (named n (get_or numbers p 0) ≡ get_or ns p [])
 
 -- the nodes stand for the names of both in their order, and the steps for the relations of the question
 pub record IsUnited (q : Question) (g h : GraphName) (r : United) : Type 0 where
@@ -39,4 +35,4 @@ pub record IsUnited (q : Question) (g h : GraphName) (r : United) : Type 0 where
   pub steps_count : length r.steps.now ≤ pairs_of_two g h
   pub first : NodesOf (names g) r.first.now r.names
   pub second : NodesOf (names h) r.second.now r.names
-  pub table : StepTable r.steps.now (length r.names.spans.now) (name_in r.names) (by_question q g h)
+  pub table : StepTable r.steps.now (length r.names.spans.now) (named r.names) (by_question q g h)

@@ -1,15 +1,20 @@
 -- The search tells of a path or that there is none.
-use Rattle.std.proofs.lemmas.Bool.{not-true, not-false}
-use Rattle.path_bytes.proofs.Replying.{reply_no, reply_yes, reply_short}
+use Rattle.std.proofs.lemmas.Result.{err_from_is_err_and}
+use Rattle.search.specs.Spans.{named}
+use Rattle.path_bytes.proofs.Replying.{reply_no, readback, reply_yes, reply_short}
 use Rattle.path_bytes.proofs.finding.find_path.Goals as goal
 
-pub returns-then-not-r : goal.returns-then-not-r
-returns-then-not-r c = reply_no _ _ _ _ _ _ _ c.requires _ _ _ c.search_table-r.ensures _ _ _ (not-true _ c.if-not-r.true)
+pub returns-in_default : goal.returns-in_default
+returns-in_default c = reply_no _ _ _ _ _ _ _ c.requires _ _ _ c.run.ensures (named c.args.names) _ c.in_default.is
 
-pub returns-then-put_path : goal.returns-then-put_path
-returns-then-put_path c =
-    reply_yes _ _ _ _ _ _ _ c.requires _ _ _ c.search_table-r.ensures _ _ _ (not-false _ c.if-not-r.false) _ _ c.put_path.ensures c.if-put_path.true
+pub write-requires : goal.write-requires
+write-requires c = readback _ _ _ _ _ _ _ c.requires _ _ _ c.run.ensures _ c.in-Some.is
+
+pub returns-in_err-write : goal.returns-in_err-write
+returns-in_err-write c =
+    let p = err_from_is_err_and c.from_residual.result c.from_residual.ensures.1 in
+    rw (p.1, p.2)
+    (reply_short _ _ _ _ _ _ _ c.requires _ _ _ c.run.ensures (named c.args.names) _ _ c.in-Some.is _ _ c.write.ensures _ c.in_err-write.was)
 
 pub returns : goal.returns
-returns c =
-    reply_short _ _ _ _ _ _ _ c.requires _ _ _ c.search_table-r.ensures _ _ _ (not-false _ c.if-not-r.false) _ _ c.put_path.ensures c.if-put_path.false
+returns c = reply_yes _ _ _ _ _ _ _ c.requires _ _ _ c.run.ensures (named c.args.names) _ _ c.in-Some.is _ _ c.write.ensures c.in_ok-write.was
