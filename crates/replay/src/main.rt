@@ -5,42 +5,26 @@
 mod entries;
 mod replaying;
 
-ghost use Rattle.std.specs.Prelude.{◌≡◌, length};
+use replaying::Replay;
+use text::filled;
 
 // The descriptor of standard input.
 const STDIN: i32 = 0;
 
-// Room for the list.
-fn list_buffer() -> [u8; 524288]
-    ensures { 524288 ≡ length result }
-{
-    [0; 524288]
-}
+// The room for the list.
+const LIST_BYTES: usize = 524288;
 
-// Replays a list with the names of the entries, and room for the byte strings that it sets and their sizes; prints the counts.
-fn count(names: &[u8], list: &[u8], bytes: &mut [u8], sizes: &mut [usize]) {
-    let mut space = test_list::all_counts();
-    let counts: &mut [usize] = &mut space;
-    replaying::take_all(names, list, bytes, sizes, counts);
-    test_list::print_entries(names, counts);
-    test_list::print_results(counts);
-}
-
-// Replays a list.
+// Replays a list line by line, and prints the counts.
 fn replay(list: &[u8]) {
-    let mut space = test_list::holder_buffer();
-    let mut size_space = test_list::holder_sizes();
-    count(
-        b"counts name name_at subgraph_at translation_at is_same new add_subgraph add_translation make_subgraph_of add_translation_to add_relationships from_header_lines from_tags error_message to_gfa_header_lines to_gaf_header_lines set_tags is_subgraph_of translates_to check_strict describe_relationship tags_counts tags_at tags_get tags_contains_key tags_insert tags_remove tags_set_graph_name ",
-        list,
-        &mut space,
-        &mut size_space,
-    );
+    let mut replay = Replay::new();
+    for (number, line) in list.split(|x| *x == b'\n').enumerate() {
+        replay.take(number + 1, line);
+    }
+    replay.print();
 }
 
 fn main() {
-    let mut space = list_buffer();
-    let list: &mut [u8] = &mut space;
-    let n = io::read_full(STDIN, list);
-    replay(text::part(list, 0, n));
+    let mut list: [u8; LIST_BYTES] = filled(0);
+    let n = io::read_full(STDIN, &mut list);
+    replay(&list[..n]);
 }

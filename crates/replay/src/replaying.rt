@@ -1,84 +1,80 @@
 // Takes the lines of the list one by one: sets what a line sets, and makes the call of a line with an entry's name.
-use crate::entries::{STRICT, agrees};
-use test_list::{
-    HOLDERS, count_result, count_right, count_wrong, first, holder, number_at, past, place_of,
-    rest, set_as, tail, upto,
-};
+use crate::entries::{Entry, NAMED};
+use test_list::{Holder, Holders, Numbers, Tally, cut};
+use test_records::Look;
 
-// Makes the call of a line that begins with an entry's name. A line with another word is a mismatch. The result that the line wants is
-// counted; not that of the strict reading, which is no refusal's number.
-fn call(
-    names: &[u8],
-    bytes: &[u8],
-    sizes: &[usize],
-    counts: &mut [usize],
-    number: usize,
-    line: &[u8],
-) {
-    let entry = place_of(names, upto(line, 0, b' '));
-    let n = rest(line);
-    count_right(counts, entry, agrees(entry, bytes, sizes, n), number, line);
-    if entry != STRICT {
-        count_result(counts, number_at(n, 0));
-    }
+// The byte strings that are set, and what is counted so far.
+#[derive(Drop)]
+pub(crate) struct Replay {
+    holders: Holders,
+    tally: Tally,
 }
 
-// Makes the call of a line that is wrong on purpose: the line behind its `!`.
-fn call_wrong(names: &[u8], bytes: &[u8], sizes: &[usize], counts: &mut [usize], line: &[u8]) {
-    let entry = place_of(names, upto(line, 0, b' '));
-    count_wrong(counts, entry, agrees(entry, bytes, sizes, rest(line)));
+// The place of an entry among all of them, and the entry, by its name.
+fn named(word: &[u8]) -> Option<(usize, Entry)> {
+    NAMED
+        .iter()
+        .enumerate()
+        .find(|(_, (name, _))| *name == word)
+        .map(|(place, (_, entry))| (place, *entry))
 }
 
-// Takes a line that calls: one that begins with `!` is wrong on purpose.
-fn take_call(
-    names: &[u8],
-    bytes: &[u8],
-    sizes: &[usize],
-    counts: &mut [usize],
-    number: usize,
-    line: &[u8],
-) {
-    if first(line) == b'!' {
-        call_wrong(names, bytes, sizes, counts, tail(line));
-        return;
+impl Replay {
+    // Nothing set, and nothing counted.
+    pub(crate) fn new() -> Replay {
+        Replay {
+            holders: Holders::new(),
+            tally: Tally::new(),
+        }
     }
-    call(names, bytes, sizes, counts, number, line);
-}
 
-// Takes one line: an empty one, or one that begins with `#`, says nothing.
-fn take(
-    names: &[u8],
-    bytes: &mut [u8],
-    sizes: &mut [usize],
-    counts: &mut [usize],
-    number: usize,
-    line: &[u8],
-) {
-    if first(line) == b'#' {
-        return;
+    // Whether the entry that a word names answers with the numbers of a line; none does not.
+    fn agrees(&self, entry: Option<(usize, Entry)>, n: Numbers) -> bool {
+        entry.is_some_and(|(_, entry)| entry.agrees(&self.holders, n))
     }
-    let place = holder(upto(line, 0, b' '));
-    if place < HOLDERS {
-        set_as(bytes, sizes, place, rest(line));
-        return;
-    }
-    take_call(names, bytes, sizes, counts, number, line);
-}
 
-// Takes all lines of the list.
-pub(crate) fn take_all(
-    names: &[u8],
-    list: &[u8],
-    bytes: &mut [u8],
-    sizes: &mut [usize],
-    counts: &mut [usize],
-) {
-    let mut from = 0;
-    let mut number = 1;
-    while from < list.len() {
-        let line = upto(list, from, b'\n');
-        take(names, bytes, sizes, counts, number, line);
-        from = past(list, from, b'\n');
-        number += 1;
+    // Makes the call of a line that begins with an entry's name. A line with another word is a mismatch. The result that the line wants is
+    // counted; not that of the strict reading, which is no refusal's number.
+    fn call(&mut self, number: usize, line: &[u8]) {
+        let (word, words) = cut(line, b' ');
+        let n = Numbers { words };
+        let entry = named(word);
+        let agreed = self.agrees(entry, n);
+        self.tally
+            .count_right(entry.map(|(place, _)| place), agreed, number, line);
+        if !matches!(entry, Some((_, Entry::Look(Look::CheckStrict)))) {
+            self.tally.count_result(n.at(0));
+        }
+    }
+
+    // Makes the call of a line that is wrong on purpose.
+    fn call_wrong(&mut self, line: &[u8]) {
+        let (word, words) = cut(line, b' ');
+        let entry = named(word);
+        let agreed = self.agrees(entry, Numbers { words });
+        self.tally
+            .count_wrong(entry.map(|(place, _)| place), agreed);
+    }
+
+    // Takes one line: an empty one, or one that begins with `#`, says nothing, and one that begins with `!` is wrong on purpose.
+    pub(crate) fn take(&mut self, number: usize, line: &[u8]) {
+        let (word, rest) = cut(line, b' ');
+        match line {
+            [] | [b'#', ..] => (),
+            [b'!', wrong @ ..] => self.call_wrong(wrong),
+            _ => match Holder::named(word) {
+                Some(holder) => self.holders.set(holder, rest),
+                None => self.call(number, line),
+            },
+        }
+    }
+
+    // Prints the counts.
+    pub(crate) fn print(&self) {
+        for (place, (name, _)) in NAMED.iter().enumerate() {
+            self.tally.print_entry(place, name);
+        }
+        self.tally.print_total();
+        self.tally.print_results();
     }
 }

@@ -2,23 +2,19 @@
 // line, and `*N.` for the byte before it N times in all.
 ghost use Rattle.std.specs.Prelude.{◌<◌, length};
 
-use crate::lines::{number, past, upto};
+use crate::lines::{cut, number};
 use test_output::{put, put_text};
 
 // Writes the byte before a place again, until it stands there so many times.
 fn repeat(out: &mut [u8], at: usize, times: usize) -> usize {
-    if at == 0 {
+    let Some(x) = at.checked_sub(1).and_then(|last| out.get(last).copied()) else {
         return at;
-    }
-    if out.len() < at {
-        return at;
-    }
-    let x = out[at - 1];
-    let mut p = at;
+    };
+    let mut end = at;
     for _ in 1..times {
-        p = put(out, p, x);
+        end = put(out, end, x);
     }
-    p
+    end
 }
 
 // The value of a hexadecimal digit in lower case; 0 for other bytes.
@@ -26,59 +22,38 @@ fn digit(x: u8) -> u8
     ensures { result < 16 }
 {
     match x {
-        b'0'..=b'9' => x - 48,
-        b'a'..=b'f' => x - 87,
+        b'0'..=b'9' => x - b'0',
+        b'a'..=b'f' => x - b'a' + 10,
         _ => 0,
     }
 }
 
-// The byte that stands at a place of s by itself: a tab, the end of a line, or that of two hexadecimal digits.
-fn byte_at(s: &[u8], i: usize) -> u8
-    requires { i < length s.now }
+// Writes what stands at the front of s, and gives the place behind it and what is left of s.
+fn put_next<'a>(out: &mut [u8], at: usize, s: &'a [u8]) -> (usize, &'a [u8])
+    ensures { 0 < length s.now → length result.1.now < length s.now }
 {
-    match s[i] {
-        b't' => b'\t',
-        b'n' => b'\n',
-        x => {
-            if i + 1 < s.len() {
-                return 16 * digit(x) + digit(s[i + 1]);
-            }
-            0
+    match s {
+        [b'"', tail @ ..] => {
+            let (quoted, rest) = cut(tail, b'"');
+            (put_text(out, at, quoted), rest)
         }
-    }
-}
-
-// Writes what stands at a place of s, and gives the place behind what was written.
-fn put_next(out: &mut [u8], at: usize, s: &[u8], i: usize) -> usize
-    requires { i < length s.now }
-{
-    match s[i] {
-        b'"' => put_text(out, at, upto(s, i + 1, b'"')),
-        b'*' => repeat(out, at, number(upto(s, i + 1, b'.')) as usize),
-        _ => put(out, at, byte_at(s, i)),
-    }
-}
-
-// The place behind what stands at a place of s.
-fn next(s: &[u8], i: usize) -> usize
-    requires { i < length s.now }
-    ensures { i < result }
-{
-    match s[i] {
-        b'"' => past(s, i + 1, b'"'),
-        b'*' => past(s, i + 1, b'.'),
-        b't' | b'n' => i + 1,
-        _ => i + 2,
+        [b'*', tail @ ..] => {
+            let (times, rest) = cut(tail, b'.');
+            (repeat(out, at, number(times) as usize), rest)
+        }
+        [b't', rest @ ..] => (put(out, at, b'\t'), rest),
+        [b'n', rest @ ..] => (put(out, at, b'\n'), rest),
+        [high, low, rest @ ..] => (put(out, at, 16 * digit(*high) + digit(*low)), rest),
+        _ => (put(out, at, 0), &s[s.len()..]),
     }
 }
 
 // Writes the bytes that s stands for to the front of the output, and gives their number.
-pub fn read_bytes(s: &[u8], out: &mut [u8]) -> usize {
-    let mut i = 0;
+pub(crate) fn read_bytes(s: &[u8], out: &mut [u8]) -> usize {
+    let mut rest = s;
     let mut at = 0;
-    while i < s.len() {
-        at = put_next(out, at, s, i);
-        i = next(s, i);
+    while !rest.is_empty() {
+        (at, rest) = put_next(out, at, rest);
     }
     at
 }

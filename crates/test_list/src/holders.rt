@@ -1,13 +1,13 @@
-// The byte strings that the list sets by name and that the calls take. They stand one behind the other in a buffer, the two tag lists last, and
-// their lengths stand apart.
-ghost use Rattle.std.specs.Prelude.{◌≡◌, ◌+◌, ◌*◌, ◌≤◌, length};
-ghost use Rattle.io.specs.Counts.{IsPrefixLen};
+// The byte strings that the list sets by name and that the calls take. They stand one behind the other, the two tag lists last, and their
+// lengths stand apart.
+ghost use Rattle.std.specs.Prelude.{◌+◌, ◌≤◌, length};
 
 use crate::bytes::read_bytes;
-use crate::lines::{first, tail};
+use std::ops::Range;
+use text::{filled, part};
 
 // How many there are.
-pub const HOLDERS: usize = 13;
+const HOLDERS: usize = 13;
 
 // The room for each but the tag lists.
 const HOLDER_BYTES: usize = 47616;
@@ -15,156 +15,129 @@ const HOLDER_BYTES: usize = 47616;
 // The room for a tag list: a byte more than it should have.
 const TAG_LIST_BYTES: usize = 264453;
 
+// Where the tag lists begin.
+const LISTS: usize = 11 * HOLDER_BYTES;
+
 // The room for all.
-const ALL_BYTES: usize = TAGS * HOLDER_BYTES + 2 * TAG_LIST_BYTES;
+const ALL_BYTES: usize = LISTS + 2 * TAG_LIST_BYTES;
 
-// The places of the names in `names`: what a call reads, what its outputs hold before it, and what they are to hold after it.
-pub const RECORD: usize = 0;
-
-pub const OTHER: usize = 1;
-
-pub const ONE: usize = 2;
-
-pub const TWO: usize = 3;
-
-pub const THREE: usize = 4;
-
-pub const OUT: usize = 5;
-
-pub const OUT_TWO: usize = 6;
-
-pub const OUT_THREE: usize = 7;
-
-pub const WANT: usize = 8;
-
-pub const WANT_TWO: usize = 9;
-
-pub const WANT_THREE: usize = 10;
-
-pub const TAGS: usize = 11;
-
-pub const WANT_TAGS: usize = 12;
-
-// The place of a name, or `HOLDERS` if it is none of them.
-pub fn holder(name: &[u8]) -> usize {
-    crate::lines::place_of(
-        b"record other one two three out out_two out_three want want_two want_three tags want_tags ",
-        name,
-    )
+// One of the byte strings: what a call reads, what its outputs hold before it, and what they are to hold after it.
+#[derive(Clone, Copy)]
+pub enum Holder {
+    Record,
+    Other,
+    One,
+    Two,
+    Three,
+    Out,
+    OutTwo,
+    OutThree,
+    Want,
+    WantTwo,
+    WantThree,
+    Tags,
+    WantTags,
 }
 
-// Room for all of them.
-pub fn holder_buffer() -> [u8; ALL_BYTES]
-    ensures { 11 * 47616 + 2 * 264453 ≡ length result }
-{
-    [0; ALL_BYTES]
-}
-
-// Their lengths.
-pub fn holder_sizes() -> [usize; HOLDERS]
-    ensures { 13 ≡ length result }
-{
-    [0; HOLDERS]
-}
-
-// The room for the one at a place.
-fn room_at(place: usize) -> usize
-    ensures { result ≤ 264453 }
-{
-    if place < TAGS {
-        return HOLDER_BYTES;
+impl Holder {
+    // The one that a word names, if there is one.
+    pub fn named(word: &[u8]) -> Option<Holder> {
+        match word {
+            b"record" => Some(Holder::Record),
+            b"other" => Some(Holder::Other),
+            b"one" => Some(Holder::One),
+            b"two" => Some(Holder::Two),
+            b"three" => Some(Holder::Three),
+            b"out" => Some(Holder::Out),
+            b"out_two" => Some(Holder::OutTwo),
+            b"out_three" => Some(Holder::OutThree),
+            b"want" => Some(Holder::Want),
+            b"want_two" => Some(Holder::WantTwo),
+            b"want_three" => Some(Holder::WantThree),
+            b"tags" => Some(Holder::Tags),
+            b"want_tags" => Some(Holder::WantTags),
+            _ => None,
+        }
     }
-    TAG_LIST_BYTES
-}
 
-// Where the room for the one at a place begins; past the last, where that of the last does.
-fn start_at(place: usize) -> usize
-    ensures { result + 264453 ≤ 11 * 47616 + 2 * 264453 }
-{
-    if place < TAGS {
-        return HOLDER_BYTES * place;
-    }
-    if place == TAGS {
-        return TAGS * HOLDER_BYTES;
-    }
-    TAGS * HOLDER_BYTES + TAG_LIST_BYTES
-}
-
-// The length of the one at a place; 0 past the last.
-fn size_at(sizes: &[usize], place: usize) -> usize {
-    if place < sizes.len() {
-        return sizes[place];
-    }
-    0
-}
-
-// Sets the length of the one at a place.
-fn set_size(sizes: &mut [usize], place: usize, size: usize) {
-    if place < sizes.len() {
-        sizes[place] = size;
+    // Where its room stands among the bytes of all.
+    fn room(self) -> Range<usize>
+        ensures ordered { result.start ≤ result.end }
+        ensures small { result.end ≤ result.start + TAG_LIST_BYTES }
+        ensures within { result.end ≤ ALL_BYTES }
+    {
+        match self {
+            Holder::Tags => LISTS..LISTS + TAG_LIST_BYTES,
+            Holder::WantTags => LISTS + TAG_LIST_BYTES..ALL_BYTES,
+            _ => self as usize * HOLDER_BYTES..(self as usize + 1) * HOLDER_BYTES,
+        }
     }
 }
 
-// The one at a place.
-pub fn held<'a>(bytes: &'a [u8], sizes: &[usize], place: usize) -> &'a [u8] {
-    text::part(bytes, start_at(place), size_at(sizes, place))
+// All of them.
+#[derive(Drop)]
+pub struct Holders {
+    bytes: [u8; ALL_BYTES],
+    sizes: [usize; HOLDERS],
 }
 
-// Sets the one at a place to the bytes that a text stands for.
-fn set(bytes: &mut [u8], sizes: &mut [usize], place: usize, s: &[u8]) {
-    if bytes.len() != ALL_BYTES {
-        return;
+impl Holders {
+    // Empty ones.
+    pub fn new() -> Holders {
+        Holders {
+            bytes: filled(0),
+            sizes: filled(0),
+        }
     }
-    let start = start_at(place);
-    let end = start + room_at(place);
-    let size = read_bytes(s, &mut bytes[start..end]);
-    set_size(sizes, place, size);
-}
 
-// The length of the one at a place, cut to the room for the one at another.
-fn size_within(sizes: &[usize], place: usize, other: usize) -> usize
-    ensures { result ≤ 264453 }
-{
-    let size = size_at(sizes, place);
-    let room = room_at(other);
-    if size < room {
-        return size;
+    // What one holds.
+    pub fn get(&self, holder: Holder) -> &[u8]
+        ensures { length result.now ≤ TAG_LIST_BYTES }
+    {
+        part(&self.bytes[holder.room()], 0, self.sizes[holder as usize])
     }
-    room
-}
 
-// Sets the one at a place to the one at another.
-fn set_same(bytes: &mut [u8], sizes: &mut [usize], place: usize, from: usize) {
-    if bytes.len() != ALL_BYTES {
-        return;
+    // Sets one to the bytes that a text stands for.
+    fn read(&mut self, holder: Holder, text: &[u8]) {
+        self.sizes[holder as usize] = read_bytes(text, &mut self.bytes[holder.room()]);
     }
-    let size = size_within(sizes, from, place);
-    let to_start = start_at(place);
-    let from_start = start_at(from);
-    for i in 0..size {
-        bytes[to_start + i] = bytes[from_start + i];
-    }
-    set_size(sizes, place, size);
-}
 
-// Copies one to the front of an output, if it fits, and gives its length.
-pub fn load(out: &mut [u8], s: &[u8]) -> usize
-    ensures { IsPrefixLen result out.new }
-{
-    if out.len() < s.len() {
-        return 0;
+    // Sets one to what another holds, as far as there is room.
+    fn copy(&mut self, holder: Holder, from: Holder) {
+        let source = from.room();
+        let target = holder.room();
+        let size = self.sizes[from as usize]
+            .min(source.end - source.start)
+            .min(target.end - target.start);
+        self.bytes
+            .copy_within(source.start..source.start + size, target.start);
+        self.sizes[holder as usize] = size;
     }
-    text::copy(out, 0, s)
-}
 
-// Sets the byte string at a place as a line says: to that of a name behind `=`, or to bytes.
-pub fn set_as(bytes: &mut [u8], sizes: &mut [usize], place: usize, s: &[u8]) {
-    if HOLDERS <= place {
-        return;
+    // Sets one as a line says: to what that of a name behind `=` holds, nothing if it is no name, or to bytes.
+    pub fn set(&mut self, holder: Holder, text: &[u8]) {
+        match text {
+            [b'=', name @ ..] => match Holder::named(name) {
+                Some(from) => self.copy(holder, from),
+                None => self.read(holder, b""),
+            },
+            _ => self.read(holder, text),
+        }
     }
-    if first(s) == b'=' {
-        set_same(bytes, sizes, place, holder(tail(s)));
-        return;
+
+    // Whether a call on a copy of one agrees, and leaves in the copy what another holds.
+    pub fn agrees_on_copy<F: FnOnce(&mut [u8]) -> bool>(
+        &self,
+        before: Holder,
+        after: Holder,
+        call: F,
+    ) -> bool
+        requires { F.IsAlwaysCallable call }
+    {
+        let mut space: [u8; TAG_LIST_BYTES] = filled(0);
+        let bytes = self.get(before);
+        let copy = &mut space[..bytes.len()];
+        copy.copy_from_slice(bytes);
+        call(copy) && &*copy == self.get(after)
     }
-    set(bytes, sizes, place, s);
 }

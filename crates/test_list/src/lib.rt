@@ -6,15 +6,7 @@ mod bytes;
 mod counting;
 mod holders;
 mod lines;
-mod numbers;
 
-pub use bytes::read_bytes;
-pub use counting::{
-    all_counts, count_result, count_right, count_wrong, print_entries, print_results,
-};
-pub use holders::{
-    HOLDERS, ONE, OTHER, OUT, OUT_THREE, OUT_TWO, RECORD, TAGS, THREE, TWO, WANT, WANT_TAGS,
-    WANT_THREE, WANT_TWO, held, holder, holder_buffer, holder_sizes, load, set_as,
-};
-pub use lines::{UNWRITTEN, first, number_at, past, place_of, rest, tail, upto};
-pub use numbers::{are_five, are_four, are_seven, are_two, is, narrow};
+pub use counting::{ENTRIES, Tally};
+pub use holders::{Holder, Holders};
+pub use lines::{Numbers, UNWRITTEN, cut};

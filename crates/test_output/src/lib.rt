@@ -26,8 +26,8 @@ pub fn put(out: &mut [u8], at: usize, x: u8) -> usize {
 // Puts a text into a buffer, as far as there is room.
 pub fn put_text(out: &mut [u8], at: usize, s: &[u8]) -> usize {
     let mut p = at;
-    for i in 0..s.len() {
-        p = put(out, p, s[i]);
+    for x in s {
+        p = put(out, p, *x);
     }
     p
 }

@@ -1,22 +1,37 @@
 // The entries that make and change records. The line has the result alone.
-use test_list::{ONE, OTHER, TWO, held, is};
+use test_list::{Holder, Holders, Numbers};
 
-// The result of the entry of a number, from 6 to 11, on a record.
-fn result(entry: usize, b: &mut [u8], other: &[u8], one: &[u8], two: &[u8]) -> u32 {
-    match entry {
-        6 => graph_name::graph_name_new(one, b),
-        7 => graph_name::graph_name_add_subgraph(b, one, two),
-        8 => graph_name::graph_name_add_translation(b, one, two),
-        9 => graph_name::graph_name_make_subgraph_of(b, other),
-        10 => graph_name::graph_name_add_translation_to(b, other),
-        _ => graph_name::graph_name_add_relationships(b, other),
-    }
+// One of them.
+#[derive(Clone, Copy)]
+pub enum Edit {
+    New,
+    AddSubgraph,
+    AddTranslation,
+    MakeSubgraphOf,
+    AddTranslationTo,
+    AddRelationships,
 }
 
-// Whether the entry of a number has the result of a line.
-pub fn edit_agrees(entry: usize, bytes: &[u8], sizes: &[usize], n: &[u8], out: &mut [u8]) -> bool {
-    let other = held(bytes, sizes, OTHER);
-    let one = held(bytes, sizes, ONE);
-    let two = held(bytes, sizes, TWO);
-    is(n, 0, result(entry, out, other, one, two) as u64)
+impl Edit {
+    // Its result, on a record.
+    fn result(self, record: &mut [u8], holders: &Holders) -> u32 {
+        let other = holders.get(Holder::Other);
+        let one = holders.get(Holder::One);
+        let two = holders.get(Holder::Two);
+        match self {
+            Edit::New => graph_name::graph_name_new(one, record),
+            Edit::AddSubgraph => graph_name::graph_name_add_subgraph(record, one, two),
+            Edit::AddTranslation => graph_name::graph_name_add_translation(record, one, two),
+            Edit::MakeSubgraphOf => graph_name::graph_name_make_subgraph_of(record, other),
+            Edit::AddTranslationTo => graph_name::graph_name_add_translation_to(record, other),
+            Edit::AddRelationships => graph_name::graph_name_add_relationships(record, other),
+        }
+    }
+
+    // Whether it has the result of a line, and the record comes out as `want` says.
+    pub fn agrees(self, holders: &Holders, n: Numbers) -> bool {
+        holders.agrees_on_copy(Holder::Out, Holder::Want, |record| {
+            n.are(&[u64::from(self.result(record, holders))])
+        })
+    }
 }

@@ -5,5 +5,5 @@
 mod edits;
 mod records;
 
-pub use edits::edit_agrees;
-pub use records::record_agrees;
+pub use edits::Edit;
+pub use records::Look;

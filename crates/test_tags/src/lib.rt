@@ -4,5 +4,5 @@
 mod changes;
 mod look_ups;
 
-pub use changes::tag_change_agrees;
-pub use look_ups::tag_look_up_agrees;
+pub use changes::Change;
+pub use look_ups::LookUp;

@@ -6,6 +6,6 @@ mod asked;
 mod tags;
 mod texts;
 
-pub use asked::question_agrees;
-pub use tags::tags_agree;
-pub use texts::text_agrees;
+pub use asked::Ask;
+pub use tags::set_tags_agrees;
+pub use texts::Read;

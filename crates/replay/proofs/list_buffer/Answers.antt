@@ -1,7 +1,0 @@
--- The length by the law of a repeat, not by counting.
-use Rattle.std.proofs.Common.{ℕ, sym}
-use Rattle.std.proofs.lemmas.List.{length-replicate}
-use Rattle.replay.proofs.list_buffer.Goals as goal
-
-pub returns : goal.returns
-returns c = sym (length-replicate {A = ℕ} 524288 0)
