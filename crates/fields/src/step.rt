@@ -7,7 +7,7 @@ use crate::field::Source;
 use crate::line::{Field, line_field};
 
 // How many lines and fields have been begun. A rule of the project has it lent to each reader of a field, and moved on there.
-#[derive(Clone, Copy, Debug, PartialEq, Eq)]
+#[derive(Clone, Copy, Debug, Default, PartialEq, Eq)]
 pub struct Tally {
     pub lines: usize,
     pub fields: usize,

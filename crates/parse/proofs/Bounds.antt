@@ -1,13 +1,7 @@
 -- What a reading gives is within the sizes of docs/FORMAT.md; the number of a refused one is at most 14, and 15 with a buffer of a wrong size.
-use mathlib.Core.Path.{◌≡◌, refl}
-use mathlib.Core.Bool.{Bool, true, false, cond, not, ◌||◌}
-use mathlib.Core.List.{List, [], ◌∷◌}
+use Rattle.std.proofs.Common.{◌≡◌, refl, Bool, true, false, cond, not, ◌||◌, List, [], ◌∷◌, ℕ, suc, ◌+◌, ◌≤◌, arith, lit≤, eqb, ltb, length, take, drop, get_or, eqb-true}
 use Rattle.std.specs.Prelude.{Option, Some, None}
-use Prim.Native.Nat.{ℕ, suc, ◌+◌, ◌≤◌}
-use native.Mathlib.Omega.{arith}
-use lib.Dec.{lit≤, eqb, ltb}
-use lib.ListN.{length, take, drop, get_or}
-use borrow.Author.Tests.{eqb-true, eqb-false}
+use borrow.Author.Tests.{eqb-false}
 use Rattle.model.specs.Text.{text}
 use Rattle.text.proofs.Tests.{either_way}
 use Rattle.record.proofs.Opening.{written_opened, written_refused}

@@ -1,15 +1,11 @@
 -- Demand 1: the number of every entry is one of docs/FORMAT.md's, and a refusal leaves what it must.
-use mathlib.Core.Path.{◌≡◌, refl, sym, ◌∙◌}
-use mathlib.Core.Logic.{◌≢◌}
-use mathlib.Core.Bool.{Bool, true, false, cond, ◌&&◌, ◌||◌}
-use mathlib.Core.List.{List, [], ◌∷◌}
+use Rattle.std.proofs.Common.{◌≡◌, refl, sym, ◌∙◌, ◌≢◌, Bool, true, false, cond, ◌&&◌, ◌||◌, List, [], ◌∷◌, ℕ, ◌+◌, ◌*◌, ◌≤◌, arith, lit≤, eqb, leb, length, drop, replicate, length-append, length-drop, eqb-true, leb-true}
 use Rattle.std.specs.Prelude.{Option, Some, None, Ok, Err}
-use Prim.Native.Nat.{ℕ, ◌+◌, ◌*◌, ◌≤◌}
-use native.Mathlib.Omega.{arith}
-use lib.Dec.{lit≤, eqb, leb}
-use lib.ListN.{length, drop, replicate, length-append, length-drop, length-replicate}
-use Rattle.model.specs.declared.fault.Fault.TheVariants.{WrongBuffer, OutputShort, LongDesc}
-use borrow.Author.Tests.{eqb-true, eqb-false, leb-true}
+use Rattle.std.proofs.lemmas.List.{length-replicate}
+use Rattle.model.specs.declared.fault.Fault.TheVariants.{WrongBuffer, NotARecord, OutputShort, LongDesc}
+use Rattle.model.specs.declared.fault.Fault.{Fault}
+use Rattle.model.specs.Faults.{fault_number}
+use borrow.Author.Tests.{eqb-false}
 use Rattle.model.specs.declared.Kind.{Kind}
 use Rattle.model.specs.declared.Kind.TheVariants.{Subgraph, Translation}
 use Rattle.model.specs.Bytes.{Bytes, is_empty}
@@ -21,7 +17,7 @@ use Rattle.model.specs.Message.{error_message}
 use Rattle.model.specs.Describe.{describe_relationship}
 use Rattle.model.specs.Writing.{to_gfa_header_lines, to_gaf_header_lines}
 use Rattle.model.specs.Outcome.{Outcome, reading_into, read_into, read_tags_into, refusal_into, or_left, kept_or, add_pair, add_subgraph, add_translation, change_from, add_relationships, related, relate, make_subgraph_of, add_translation_to, fresh_or, new_record}
-use Rattle.model.specs.Outcome.{Answer, answered, name_or, or_refusal, sized, ask, ask_subgraph, ask_full, output_after, answer_number, answer_value}
+use Rattle.model.specs.Outcome.{Answer, answered, name_or, sized, ask, ask_subgraph, ask_full, output_after, answer_number, answer_value}
 use Rattle.model.specs.Questions.{asked, asked_both, counts_in, name_in, name_at_in, pair_at_in, is_same_in}
 use Rattle.model.specs.Opening.{Given, number_of, and_then, both_given, or_refuse, Buffer, opened, has_size, record_in, two_records}
 use Rattle.model.specs.Written.{within, gfa_written, gaf_written, message_written, with_descs, relationship_written, output_with, Tags, tags_of, fits, all_within, tags_written, put_value}
@@ -127,7 +123,7 @@ module _ (b : Bytes) where
 record_small : (b : Bytes) → number_of (record_in b).reading ≤ 18
 record_small b = go (decode b)
   where
-    go : (o : Option GraphName) → number_of (or_refuse 16 o) ≤ 18
+    go : (o : Option GraphName) → number_of (or_refuse NotARecord o) ≤ 18
     go None = lit≤ tt
     go (Some g) = lit≤ tt
 
@@ -141,7 +137,7 @@ two_small b c = go (record_in b).reading (record_in c).reading (record_small b) 
 
 -- f of what was opened, for whatever an opening gives: a size, a number of what is read, or an answer
 module _ {A B : Type 0} (x : Buffer A) (small : number_of x.reading ≤ 18) (f : Given A → B) (P : B → Type 0) where
-  of_opened : P (f (Err WrongBuffer)) → ((n : ℕ) → x.sized ≡ true → n ≤ 18 → P (f (Err n))) → ((a : A) → x.sized ≡ true → P (f (Ok a))) → P (f (opened x))
+  of_opened : P (f (Err WrongBuffer)) → ((n : Fault) → x.sized ≡ true → fault_number n ≤ 18 → P (f (Err n))) → ((a : A) → x.sized ≡ true → P (f (Ok a))) → P (f (opened x))
   unfolding opened
   of_opened sized numbered given = go x.sized refl x.reading small
     where
@@ -197,7 +193,7 @@ module _ (b : Bytes) where
       → (length b ≡ record_length → (a : A) → RecordAt b (f a)) → RecordAt b (or_left b (opened x) f)
   opened_left x small sized f h =
       of_opened x small (λ g. or_left b g f) (RecordAt b) fifteen_left
-      (λ n e k. left (long e) n k) (λ a e. h (long e) a)
+      (λ n e k. left (long e) (fault_number n) k) (λ a e. h (long e) a)
     where
       long : x.sized ≡ true → length b ≡ record_length
       long e = eqb-true (length b) record_length (sized e)
@@ -236,14 +232,14 @@ asked_left b f = numbers_left (asked b f) (asked_small b f)
 -- ------------------------------------------------------------------ path questions
 
 abbrev FitsIn : ℕ → Answer → Type 0
-FitsIn room (Err n) = n ≤ 18
+FitsIn room (Err n) = fault_number n ≤ 18
 FitsIn room (Ok None) = Unit {0}
 FitsIn room (Ok (Some bytes)) = length bytes ≤ room
 
 module _ (path : GraphName → GraphName → Option (List Step)) (b c : Bytes) where
   answer_fits : (room : ℕ) → FitsIn room (ask path b c room)
   answer_fits room =
-      of_opened (two_records b c) (two_small b c) (λ g. or_refusal g λ r. sized room (answered (name_or r.0.name) (path r.0 r.1))) (FitsIn room)
+      of_opened (two_records b c) (two_small b c) (λ g. and_then g λ r. sized room (answered (name_or r.0.name) (path r.0 r.1))) (FitsIn room)
       (lit≤ tt) (λ n e h. h) (λ r e. whole (name_or r.0.name) (path r.0 r.1))
     where
       cut : (bytes : Bytes) (t : Bool) → leb (length bytes) room ≡ t → FitsIn room (cond t (Ok (Some bytes)) (Err OutputShort))

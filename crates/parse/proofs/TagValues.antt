@@ -1,74 +1,54 @@
 -- The three tags one after the other: each reading goes on from what the one before has, and a refusal stays.
-use mathlib.Core.Path.{◌≡◌, refl, sym, ap, subst}
-use mathlib.Core.Bool.{Bool, true, false}
-use Rattle.std.specs.Prelude.{Option}
-use Prim.Native.Nat.{ℕ}
+use Rattle.std.proofs.Common.{◌≡◌, refl, ap}
+use Rattle.std.specs.Prelude.{Some, None, Result, Ok, Err}
 use Rattle.model.specs.declared.Kind.{Kind}
-use Rattle.model.specs.declared.Kind.TheVariants.{Subgraph, Translation}
+use Rattle.model.specs.declared.fault.Fault.{Fault}
+use Rattle.model.specs.Faults.{fault_number}
 use Rattle.model.specs.Bytes.{Bytes}
-use Rattle.model.specs.Record.{GraphName, empty, with_name}
-use Rattle.model.specs.Reading.{judged, Reading, done, refused, after_reading, name_value, add_to, tag_number, tag_value, from_tags}
+use Rattle.model.specs.Record.{GraphName, with_name}
+use Rattle.model.specs.Reading.{Refusal, judged, Reading, done, refused, after_reading, name_value, add_to, tag_number, tag_value}
 use Rattle.sorted.specs.declared.putting.Sizes.{Sizes}
 use Rattle.sorted.specs.Tables.{Tables}
 use Rattle.intake.specs.declared.taking.State.{State}
-use Rattle.intake.specs.declared.taking.FieldTaken.{FieldTaken}
-use Rattle.intake.specs.declared.taking.FieldTaken.TheVariants.{Took, Wrong}
-use Rattle.parse.specs.declared.ending.Refusal.{Refusal}
-use Rattle.parse.specs.declared.ending.Ended.{Ended}
-use Rattle.parse.specs.declared.ending.Ended.TheVariants.{Done, Refused}
+use Rattle.parse.specs.declared.refusal.Refusal.{Refusal as Given}
 use Rattle.fields.specs.declared.field.Source.TheVariants.{Tag}
-use Rattle.fields.specs.Rest.{rest_of}
-use Rattle.intake.specs.State.{graph_now, FittingState, FittingAfter, TakenAs}
+use Rattle.fields.specs.Rest.{rest_of, first_stop}
+use Rattle.intake.specs.State.{own_of, graph_now, FittingState, TakenAs}
 use Rattle.parse.specs.Refusals.{refusal_given, unplaced}
-use Rattle.parse.specs.Endings.{first_stop, reading_of, FittingAtEnd, EndedAs}
-use Rattle.model.specs.Values.{given}
+use Rattle.parse.specs.Endings.{EndedAs}
 use Rattle.fields.proofs.Rest.{tag_start}
 
-module _ {at : Sizes → Tables} {own : Bytes} {has : Bool} where
+module _ {at : Sizes → Tables} where
   -- ---------------------------------------------------------------- the name
 
-  pub name_absent : has ≡ false → (v : Bytes) (s : State) → FittingState (at s.sizes) own s.own → EndedAs at own (Done s) (name_value (given has v) (graph_now (at s.sizes) own s.own))
+  pub name_absent : {s : State} → FittingState (at s.sizes) (own_of s) → EndedAs at (Ok s) (name_value None (graph_now (at s.sizes) (own_of s)))
   unfolding name_value
-  name_absent e v s h = rw e (record { same = refl; fitting = h })
+  name_absent h = record { same = refl; fitting = h }
 
-  module _ (e : has ≡ true) (v : Bytes) (g : GraphName) {k : FieldTaken} (a : TakenAs at own k (judged (with_name v g))) where
-    pub name_took : {s : State} → k ≡ Took s → EndedAs at own (Done s) (name_value (given has v) g)
-    unfolding name_value
-    name_took d = rw (e, ← a.same, d) (record {
-      same = refl;
-      fitting = subst (λ (x : FieldTaken). FittingAfter at own x) d a.fitting;
-    })
+  pub name_took : {s : State} (v : Bytes) (g : GraphName) → TakenAs at (Ok s) (judged (with_name v g)) → EndedAs at (Ok s) (name_value (Some v) g)
+  unfolding name_value
+  name_took v g a = record { same = rw (← a.same); fitting = a.fitting }
 
-    pub name_wrong : {n : ℕ} → k ≡ Wrong n → (q : Refusal) → refusal_given q ≡ unplaced n → EndedAs at own (Refused q) (name_value (given has v) g)
-    unfolding name_value
-    name_wrong d q m = rw (e, ← a.same, d) (record { same = ap refused m; fitting = tt })
+  pub name_wrong : {e : Fault} {q : Given} (v : Bytes) (g : GraphName) → TakenAs at (Err e) (judged (with_name v g)) → refusal_given q ≡ unplaced (fault_number e)
+      → EndedAs at (Err q) (name_value (Some v) g)
+  unfolding name_value
+  name_wrong v g a d = record { same = rw (← a.same) (ap refused d); fitting = tt }
 
--- ------------------------------------------------------------------ a tag of relations
+  -- ---------------------------------------------------------------- a tag of relations
 
-pub tag_absent : {at : Sizes → Tables} {own : Bytes} {has : Bool} (k : Kind) → has ≡ false → (v : Bytes) (r : Ended) → FittingAtEnd at own r
-    → EndedAs at own r (after_reading (reading_of at own r) (tag_value (tag_number k) (add_to k) (given has v)))
-unfolding tag_value
-tag_absent k e v (Done s) h = rw e (record { same = refl; fitting = h })
-tag_absent k e v (Refused q) h = record { same = refl; fitting = tt }
+  pub tag_absent : (k : Kind) {s : State} → FittingState (at s.sizes) (own_of s)
+      → EndedAs at (Ok s) (tag_value (tag_number k) (add_to k) None (graph_now (at s.sizes) (own_of s)))
+  unfolding tag_value
+  tag_absent k h = record { same = refl; fitting = h }
 
-pub tag_read : (at : Sizes → Tables) {at' : Sizes → Tables} (own : Bytes) {own' : Bytes} {has : Bool} {r : Ended} {s : State} {q : Ended} (k : Kind) → has ≡ true → (v : Bytes) → r ≡ Done s
-    → EndedAs at' own' q (rest_of (Tag k) v 0 (first_stop (Tag k) v) 0 (graph_now (at s.sizes) own s.own))
-    → EndedAs at' own' q (after_reading (reading_of at own r) (tag_value (tag_number k) (add_to k) (given has v)))
-tag_read at own {s = s} k e v d h = rw (d, e, tag_start k v (graph_now (at s.sizes) own s.own)) h
+  pub tag_read : (k : Kind) (v : Bytes) (g : GraphName) {r : Result State Given} → EndedAs at r (rest_of (Tag k) v 0 (first_stop (Tag k) v) 0 g)
+      → EndedAs at r (tag_value (tag_number k) (add_to k) (Some v) g)
+  tag_read k v g h = rw (tag_start k v g) h
 
--- ------------------------------------------------------------------ all three
+-- ------------------------------------------------------------------ one after the other
 
-after_both : (r : Reading) (f h : GraphName → Reading) → after_reading (after_reading r f) h ≡ after_reading r (λ g. after_reading (f g) h)
-after_both (done g) f h = refl
-after_both (refused r) f h = refl
+pub stops : {r : Refusal} {x : Reading} (go : GraphName → Reading) → refused r ≡ x → refused r ≡ after_reading x go
+stops go e = rw (← e)
 
-pub tags_read : (n s t : Option Bytes)
-    → from_tags n s t ≡ after_reading (after_reading (name_value n empty) (tag_value (tag_number Subgraph) (add_to Subgraph) s)) (tag_value (tag_number Translation) (add_to Translation) t)
-unfolding from_tags
-tags_read n s t = sym (after_both (name_value n empty) (tag_value 9 (add_to Subgraph) s) (tag_value 10 (add_to Translation) t))
-
--- each reading from what the one before came to
-pub tags_ended : {at : Sizes → Tables} {own : Bytes} {r : Ended} {x y : Reading} {g : GraphName} (n s t : Option Bytes)
-    → EndedAs at own r (after_reading x (tag_value (tag_number Translation) (add_to Translation) t))
-    → x ≡ after_reading y (tag_value (tag_number Subgraph) (add_to Subgraph) s) → y ≡ name_value n g → g ≡ empty → EndedAs at own r (from_tags n s t)
-tags_ended n s t h a b c = rw tags_read (rw (a, b, c) at h)
+pub goes_on : {g : GraphName} {x : Reading} (go : GraphName → Reading) → done g ≡ x → after_reading x go ≡ go g
+goes_on go e = rw (← e)

@@ -1,20 +1,19 @@
 -- What a refusal and the answer of a reading say.
-use Rattle.std.specs.Prelude.{ℕ}
+use Rattle.std.specs.Prelude.{ℕ, Result, Ok, Err}
+use Rattle.model.specs.Faults.{fault_number}
 use Rattle.model.specs.Record.{empty}
 use Rattle.model.specs.Reading.{Refusal, done, refuse}
 use Rattle.model.specs.Outcome.{refusal_of}
-use Rattle.parse.specs.declared.ending.Refusal.{Refusal as Given}
-use Rattle.parse.specs.declared.finish.Answer.{Answer}
-use Rattle.parse.specs.declared.finish.Answer.TheVariants.{Done, Refused}
+use Rattle.parse.specs.declared.refusal.Refusal.{Refusal as Given}
 
 abbrev pub refusal_given : Given → Refusal
-refusal_given r = record { number = r.number; line = r.line; start = r.start; size = r.size; offset = r.offset }
+refusal_given r = record { number = fault_number r.fault; line = r.line; start = r.start; size = r.size; offset = r.offset }
 
 -- a refusal that has no line and quotes nothing, at the front of what is read
 abbrev pub unplaced : ℕ → Refusal
 unplaced number = refusal_of (refuse 0 0 0 0 number)
 
 -- the refusal, or that of a reading that is done
-abbrev pub refusal_in : Answer → Refusal
-refusal_in Done = refusal_of (done empty)
-refusal_in (Refused r) = refusal_given r
+abbrev pub refusal_in : Result Unit Given → Refusal
+refusal_in (Ok u) = refusal_of (done empty)
+refusal_in (Err r) = refusal_given r

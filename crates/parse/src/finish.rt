@@ -6,14 +6,8 @@ ghost use Rattle.sorted.specs.Tables.{tables};
 ghost use Rattle.parse.specs.Endings.{reading_of, FittingAtEnd};
 ghost use Rattle.parse.specs.Refusals.{refusal_in};
 
-use crate::ending::{Ended, Refusal};
-
-// What a reading answers: done, or its refusal.
-#[derive(Clone, Copy)]
-pub enum Answer {
-    Done,
-    Refused(Refusal),
-}
+use crate::refusal::Refusal;
+use intake::State;
 
 // Ends a reading: writes the record, or the empty one.
 pub(crate) fn finish(
@@ -21,21 +15,21 @@ pub(crate) fn finish(
     subs: &mut [u32],
     trans: &mut [u32],
     pool: &mut [u8],
-    own: &[u8],
-    ended: Ended,
+    ended: Result<State, Refusal>,
     buffer: &mut [u8],
-) -> Answer
-    requires { FittingAtEnd (tables refs.old subs.old trans.old pool.old) own.now ended × (length buffer.old ≡ record_length) }
-    ensures { (refusal_in result ≡ refusal_of (reading_of (tables refs.old subs.old trans.old pool.old) own.now ended)) × (buffer.new ≡ (outcome_of (reading_of (tables refs.old subs.old trans.old pool.old) own.now ended)).buffer) }
+) -> Result<(), Refusal>
+    requires { FittingAtEnd (tables refs.old subs.old trans.old pool.old) ended × (length buffer.old ≡ record_length) }
+    ensures refusal { refusal_in result ≡ refusal_of (reading_of (tables refs.old subs.old trans.old pool.old) ended.entry) }
+    ensures buffer { buffer.new ≡ (outcome_of (reading_of (tables refs.old subs.old trans.old pool.old) ended.entry)).buffer }
 {
     match ended {
-        Ended::Done(state) => {
-            intake::store_state(refs, subs, trans, pool, own, state, buffer);
-            Answer::Done
+        Ok(state) => {
+            intake::store_state(refs, subs, trans, pool, state, buffer);
+            Ok(())
         }
-        Ended::Refused(refusal) => {
-            tables::clear(buffer, 0);
-            Answer::Refused(refusal)
+        Err(refusal) => {
+            buffer.fill(0);
+            Err(refusal)
         }
     }
 }

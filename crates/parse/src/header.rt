@@ -4,36 +4,35 @@ ghost use Rattle.model.specs.Reading.{from_header_lines};
 ghost use Rattle.model.specs.Outcome.{read_into, refusal_into};
 ghost use Rattle.parse.specs.Refusals.{refusal_in};
 
-use crate::ending::refuse_unplaced;
-use crate::finish::{Answer, finish};
+use crate::finish::finish;
 use crate::reading::read_text;
+use crate::refusal::Refusal;
 use fields::Source;
-use intake::{begin, name_table, own_buffer, pair_table, pool};
+use intake::{NAME_ROOM, PAIR_ROOM, POOL_ROOM, State};
+use model::Fault;
 use record::RECORD_LENGTH;
+use text::filled;
 
 // Reads header lines into a record buffer.
-pub fn from_header_lines(t: &[u8], buffer: &mut [u8]) -> Answer
-    ensures { (refusal_in result ≡ refusal_into (from_header_lines t.now) buffer.old) × (buffer.new ≡ (read_into t.now buffer.old).buffer) }
+pub fn from_header_lines(text: &[u8], buffer: &mut [u8]) -> Result<(), Refusal>
+    ensures refusal { refusal_in result ≡ refusal_into (from_header_lines text.now) buffer.old }
+    ensures buffer { buffer.new ≡ (read_into text.now buffer.old).buffer }
 {
     if buffer.len() != RECORD_LENGTH {
-        return Answer::Refused(refuse_unplaced(15));
+        return Err(Refusal::from(Fault::WrongBuffer));
     }
-    let mut refs = name_table();
-    let mut subs = pair_table();
-    let mut trans = pair_table();
-    let mut pool = pool();
-    let mut own = own_buffer();
+    let mut refs: [u32; NAME_ROOM] = filled(0);
+    let mut subs: [u32; PAIR_ROOM] = filled(0);
+    let mut trans: [u32; PAIR_ROOM] = filled(0);
+    let mut pool: [u8; POOL_ROOM] = filled(0);
     let ended = read_text(
         Source::Header,
-        t,
+        text,
         &mut refs,
         &mut subs,
         &mut trans,
         &mut pool,
-        &mut own,
-        begin(),
+        State::default(),
     );
-    finish(
-        &mut refs, &mut subs, &mut trans, &mut pool, &own, ended, buffer,
-    )
+    finish(&mut refs, &mut subs, &mut trans, &mut pool, ended, buffer)
 }

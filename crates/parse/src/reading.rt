@@ -1,71 +1,35 @@
 // A text read field by field into the working tables.
 ghost use Rattle.std.specs.Prelude.{◌≡◌};
 ghost use Rattle.sorted.specs.Tables.{tables};
-ghost use Rattle.fields.specs.Rest.{rest_of};
-ghost use Rattle.intake.specs.State.{graph_now, FittingState};
-ghost use Rattle.parse.specs.Endings.{first_stop, EndedAs};
+ghost use Rattle.fields.specs.Rest.{first_stop, rest_of};
+ghost use Rattle.intake.specs.State.{own_of, graph_now, FittingState};
+ghost use Rattle.parse.specs.Endings.{EndedAs};
 
-use crate::ending::{Ended, refuse};
-use fields::{Source, Tally, next};
-use intake::{FieldTaken, State, take_field};
+use crate::refusal::Refusal;
+use fields::{Fields, Source, Tally};
+use intake::{State, take_field};
 
-// Where the first part of a text stops: header lines begin with a line, a tag with a relation.
-fn first_stop(source: Source, t: &[u8]) -> usize
-    ensures { result ≡ first_stop source t.now }
-{
-    match source {
-        Source::Header => 0,
-        Source::Tag(_) => t.len() + 1,
-    }
-}
-
-// Reads all of t into the tables and the own name.
-pub(crate) fn read_text(
+// Reads all of a text into the tables.
+pub(crate) fn read_text<'a>(
     source: Source,
-    t: &[u8],
+    text: &'a [u8],
     refs: &mut [u32],
     subs: &mut [u32],
     trans: &mut [u32],
     pool: &mut [u8],
-    own: &mut [u8],
-    begun: State,
-) -> Ended
-    requires { FittingState (tables refs.old subs.old trans.old pool.old begun.sizes) own.old begun.own }
-    ensures { EndedAs (tables refs.new subs.new trans.new pool.new) own.new result (rest_of source t.now 0 (first_stop source t.now) 0 (graph_now (tables refs.old subs.old trans.old pool.old begun.sizes) own.old begun.own)) }
+    begun: State<'a>,
+) -> Result<State<'a>, Refusal>
+    requires { FittingState (tables refs.old subs.old trans.old pool.old begun.sizes) (own_of begun) }
+    ensures { EndedAs (tables refs.new subs.new trans.new pool.new) result (rest_of source text.now 0 (first_stop source text.now) 0 (graph_now (tables refs.old subs.old trans.old pool.old begun.entry.sizes) (own_of begun.entry))) }
 {
     let mut state = begun;
-    let mut stop = first_stop(source, t);
-    let mut at = 0;
-    let mut tally = Tally {
-        lines: 0,
-        fields: 0,
-    };
-    while at < stop || at < t.len() {
-        let read = next(source, t, stop, at, tally);
-        let field = read.field;
-        let start = field.start;
-        let size = field.size;
-        let content = field.content;
-        tally = read.tally;
-        match take_field(
-            refs,
-            subs,
-            trans,
-            pool,
-            own,
-            state,
-            text::part(t, start, size),
-            content,
-        ) {
-            FieldTaken::Wrong(number) => {
-                return Ended::Refused(refuse(number, field, tally));
-            }
-            FieldTaken::Took(s) => {
-                state = s;
-                stop = field.stop;
-                at = field.next;
-            }
-        }
+    let mut fields = Fields::new(source, text);
+    let mut tally = Tally::default();
+    while let Some(field) = fields.next(&mut tally) {
+        let part = &text[field.start..field.start + field.size];
+        state = take_field(refs, subs, trans, pool, state, part, field.content).map_err(
+            |fault| Refusal::of_field(fault, field, tally),
+        )?;
     }
-    Ended::Done(state)
+    Ok(state)
 }

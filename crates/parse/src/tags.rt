@@ -1,153 +1,111 @@
 // Reading the values of the three tags: name, subgraph, translation.
 ghost use Rattle.std.specs.Prelude.{◌≡◌};
-ghost use Rattle.model.specs.Reading.{after_reading, name_value, add_to, tag_number, tag_value, from_tags};
+ghost use Rattle.std.specs.Option.{option_copied};
+ghost use Rattle.model.specs.Reading.{name_value, add_to, tag_number, tag_value, from_tags};
 ghost use Rattle.model.specs.Outcome.{read_tags_into, refusal_into};
 ghost use Rattle.sorted.specs.Tables.{tables};
-ghost use Rattle.intake.specs.State.{Lengths, graph_now, FittingState};
-ghost use Rattle.parse.specs.Endings.{reading_of, FittingAtEnd, EndedAs};
-ghost use Rattle.model.specs.Values.{given};
+ghost use Rattle.intake.specs.State.{Lengths, own_of, graph_now, FittingState};
+ghost use Rattle.parse.specs.Endings.{EndedAs};
 ghost use Rattle.parse.specs.Refusals.{refusal_in};
 
-use crate::ending::{Ended, refuse_unplaced};
-use crate::finish::{Answer, finish};
+use crate::finish::finish;
 use crate::reading::read_text;
+use crate::refusal::Refusal;
 use fields::{Content, Source};
-use intake::{FieldTaken, State, begin, name_table, own_buffer, pair_table, pool, take_field};
-use model::Kind;
+use intake::{NAME_ROOM, PAIR_ROOM, POOL_ROOM, State, take_field};
+use model::{Fault, Kind};
 use record::RECORD_LENGTH;
+use text::filled;
 
 // The name's tag, if it is there.
-fn read_name(
-    has_name: bool,
-    name: &[u8],
+fn read_name<'a>(
+    name: Option<&'a [u8]>,
     refs: &mut [u32],
     subs: &mut [u32],
     trans: &mut [u32],
     pool: &mut [u8],
-    own: &mut [u8],
-    begun: State,
-) -> Ended
-    requires { FittingState (tables refs.old subs.old trans.old pool.old begun.sizes) own.old begun.own }
-    ensures { EndedAs (tables refs.new subs.new trans.new pool.new) own.new result (name_value (given has_name name.now) (graph_now (tables refs.old subs.old trans.old pool.old begun.sizes) own.old begun.own)) }
+    begun: State<'a>,
+) -> Result<State<'a>, Refusal>
+    requires { FittingState (tables refs.old subs.old trans.old pool.old begun.sizes) (own_of begun) }
+    ensures { EndedAs (tables refs.new subs.new trans.new pool.new) result (name_value (option_copied name.entry) (graph_now (tables refs.old subs.old trans.old pool.old begun.entry.sizes) (own_of begun.entry))) }
 {
-    if !has_name {
-        return Ended::Done(begun);
-    }
-    match take_field(refs, subs, trans, pool, own, begun, name, Content::Name(0)) {
-        FieldTaken::Wrong(number) => Ended::Refused(refuse_unplaced(number)),
-        FieldTaken::Took(state) => Ended::Done(state),
-    }
+    let Some(name) = name else {
+        return Ok(begun);
+    };
+    let content = Ok(Content::Name(0));
+    Ok(take_field(refs, subs, trans, pool, begun, name, content)?)
 }
 
-// The tag of a kind of relation, if it is there, after a reading that has ended.
-fn read_tag(
+// The tag of a kind of relation, if it is there.
+fn read_tag<'a>(
     kind: Kind,
-    has_value: bool,
-    value: &[u8],
+    value: Option<&'a [u8]>,
     refs: &mut [u32],
     subs: &mut [u32],
     trans: &mut [u32],
     pool: &mut [u8],
-    own: &mut [u8],
-    ended: Ended,
-) -> Ended
-    requires { FittingAtEnd (tables refs.old subs.old trans.old pool.old) own.old ended }
-    ensures { EndedAs (tables refs.new subs.new trans.new pool.new) own.new result (after_reading (reading_of (tables refs.old subs.old trans.old pool.old) own.old ended) (tag_value (tag_number kind) (add_to kind) (given has_value value.now))) }
+    begun: State<'a>,
+) -> Result<State<'a>, Refusal>
+    requires { FittingState (tables refs.old subs.old trans.old pool.old begun.sizes) (own_of begun) }
+    ensures { EndedAs (tables refs.new subs.new trans.new pool.new) result (tag_value (tag_number kind) (add_to kind) (option_copied value.entry) (graph_now (tables refs.old subs.old trans.old pool.old begun.entry.sizes) (own_of begun.entry))) }
 {
-    if !has_value {
-        return ended;
-    }
-    match ended {
-        Ended::Done(state) => read_text(
-            Source::Tag(kind),
-            value,
-            refs,
-            subs,
-            trans,
-            pool,
-            own,
-            state,
-        ),
-        Ended::Refused(refusal) => Ended::Refused(refusal),
+    match value {
+        None => Ok(begun),
+        Some(value) => read_text(Source::Tag(kind), value, refs, subs, trans, pool, begun),
     }
 }
 
 // The three tags, into tables that hold nothing yet.
-fn read_tags(
-    has_name: bool,
-    name: &[u8],
-    has_subgraph: bool,
-    subgraph: &[u8],
-    has_translation: bool,
-    translation: &[u8],
+fn read_tags<'a>(
+    name: Option<&'a [u8]>,
+    subgraph: Option<&'a [u8]>,
+    translation: Option<&'a [u8]>,
     refs: &mut [u32],
     subs: &mut [u32],
     trans: &mut [u32],
     pool: &mut [u8],
-    own: &mut [u8],
-) -> Ended
-    requires { Lengths refs.old subs.old trans.old pool.old own.old }
-    ensures { EndedAs (tables refs.new subs.new trans.new pool.new) own.new result (from_tags (given has_name name.now) (given has_subgraph subgraph.now) (given has_translation translation.now)) }
+) -> Result<State<'a>, Refusal>
+    requires { Lengths refs.old subs.old trans.old pool.old }
+    ensures { EndedAs (tables refs.new subs.new trans.new pool.new) result (from_tags (option_copied name.entry) (option_copied subgraph.entry) (option_copied translation.entry)) }
 {
-    let after_name = read_name(has_name, name, refs, subs, trans, pool, own, begin());
-    let after_subgraph = read_tag(
-        Kind::Subgraph,
-        has_subgraph,
-        subgraph,
-        refs,
-        subs,
-        trans,
-        pool,
-        own,
-        after_name,
-    );
+    let named = read_name(name, refs, subs, trans, pool, State::default())?;
+    let related = read_tag(Kind::Subgraph, subgraph, refs, subs, trans, pool, named)?;
     read_tag(
         Kind::Translation,
-        has_translation,
         translation,
         refs,
         subs,
         trans,
         pool,
-        own,
-        after_subgraph,
+        related,
     )
 }
 
 // Reads the values of the three tags, each there or not, into a record buffer.
 pub fn from_tags(
-    has_name: bool,
-    name: &[u8],
-    has_subgraph: bool,
-    subgraph: &[u8],
-    has_translation: bool,
-    translation: &[u8],
+    name: Option<&[u8]>,
+    subgraph: Option<&[u8]>,
+    translation: Option<&[u8]>,
     buffer: &mut [u8],
-) -> Answer
-    ensures { (refusal_in result ≡ refusal_into (from_tags (given has_name name.now) (given has_subgraph subgraph.now) (given has_translation translation.now)) buffer.old) × (buffer.new ≡ (read_tags_into (given has_name name.now) (given has_subgraph subgraph.now) (given has_translation translation.now) buffer.old).buffer) }
+) -> Result<(), Refusal>
+    ensures refusal { refusal_in result ≡ refusal_into (from_tags (option_copied name.entry) (option_copied subgraph.entry) (option_copied translation.entry)) buffer.old }
+    ensures buffer { buffer.new ≡ (read_tags_into (option_copied name.entry) (option_copied subgraph.entry) (option_copied translation.entry) buffer.old).buffer }
 {
     if buffer.len() != RECORD_LENGTH {
-        return Answer::Refused(refuse_unplaced(15));
+        return Err(Refusal::from(Fault::WrongBuffer));
     }
-    let mut refs = name_table();
-    let mut subs = pair_table();
-    let mut trans = pair_table();
-    let mut pool = pool();
-    let mut own = own_buffer();
+    let mut refs: [u32; NAME_ROOM] = filled(0);
+    let mut subs: [u32; PAIR_ROOM] = filled(0);
+    let mut trans: [u32; PAIR_ROOM] = filled(0);
+    let mut pool: [u8; POOL_ROOM] = filled(0);
     let ended = read_tags(
-        has_name,
         name,
-        has_subgraph,
         subgraph,
-        has_translation,
         translation,
         &mut refs,
         &mut subs,
         &mut trans,
         &mut pool,
-        &mut own,
     );
-    finish(
-        &mut refs, &mut subs, &mut trans, &mut pool, &own, ended, buffer,
-    )
+    finish(&mut refs, &mut subs, &mut trans, &mut pool, ended, buffer)
 }
