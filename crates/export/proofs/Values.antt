@@ -11,6 +11,7 @@ use Rattle.model.specs.Questions.{mapped}
 use Rattle.model.specs.Written.{fits, put_value}
 use Rattle.text.specs.Appending.{Appends}
 use Rattle.text.proofs.Appending.{appended}
+use Rattle.export.proofs.Texts.{relations_none, relations_some}
 use Rattle.export.specs.Texts.{value_text}
 
 -- its size, and what the output then holds
@@ -24,3 +25,5 @@ value_written {value} {out} {t} {r} {o} e v f k = rw e (go (rw e at v) (rw e at 
   where
     go : Appends out 0 t r o → fits (Some t) (length out) ≡ true → IsWritten (Some t) out r o
     go v f = let w = appended v (leb-true (length t) (length out) f) (omega arith) in record { size = ap Some w.0; output = w.1 }
+
+pub ruleset relations = (relations_none, relations_some, value_written)

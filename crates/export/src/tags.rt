@@ -39,6 +39,7 @@ fn write_name(out: &mut [u8], graph: &Record) -> Option<usize>
 }
 
 // Writes the relations of a kind, if there are any.
+#[tactic(auto, using(crate::proofs::Values::relations))]
 fn write_relations(out: &mut [u8], graph: &Record, kind: Kind) -> Option<usize>
     requires { fits (relations_tag (pairs_of kind graph.now)) (length out.old) ≡ true }
     ensures size { result ≡ mapped length (relations_tag (pairs_of kind graph.now)) }

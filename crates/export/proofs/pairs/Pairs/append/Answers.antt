@@ -1,12 +1,8 @@
-use mathlib.Core.Path.{refl, ap, ◌∙◌}
-use Rattle.std.proofs.Common.{arith}
+use mathlib.Core.Path.{ap, ◌∙◌}
 use Rattle.text.proofs.Appending.{appends_as, rest_turn, rest_end}
 use Rattle.export.specs.Texts.{pair_texts}
 use Rattle.export.proofs.Runs.{texts_all, texts_turn, texts_end}
 use Rattle.export.proofs.pairs.Pairs.append.Goals as goal
-
-pub loop-i-init : goal.loop-i-init
-loop-i-init c = record { place = omega arith; kept = refl; makes = λ r o v. v }
 
 pub loop-i-preserved : goal.loop-i-preserved
 loop-i-preserved c = rest_turn c.loop-i.invariant (texts_turn _ _ _ _ _ _ _ c.loop-i-test.true) c.append_pair-q.ensures
