@@ -1,12 +1,14 @@
 // Parts of a line of the list: words between spaces, and numbers in decimal.
-ghost use Rattle.std.specs.Prelude.{◌≤◌, length};
+ghost use Rattle.std.specs.Prelude.{◌≡◌, ◌==◌};
+ghost use Rattle.std.specs.List.{before_first, after_first};
 
 // What an output number holds before a call. The list has `-` for it.
 pub const UNWRITTEN: u64 = 6510615555426900570;
 
 // What stands before the first x of s, and what behind it: all of s and nothing where there is no x.
 pub fn cut(s: &[u8], x: u8) -> (&[u8], &[u8])
-    ensures { length result.1.now ≤ length s.now }
+    ensures before { result.0.now ≡ before_first (λ y. y == x) s.now }
+    ensures behind { result.1.now ≡ after_first (λ y. y == x) s.now }
 {
     match s.iter().position(|y| *y == x) {
         Some(place) => (&s[..place], &s[place + 1..]),

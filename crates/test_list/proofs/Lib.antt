@@ -1,0 +1,2 @@
+-- What the first of some bytes cuts a line into.
+mod Cutting
