@@ -1,13 +1,18 @@
 -- A run of steps read one by one: the first, and those behind it.
-use mathlib.Core.Path.{◌≡◌, refl}
+use mathlib.Core.Path.{◌≡◌, refl, ap}
 use mathlib.Core.List.{[], ◌∷◌}
 use Prim.Native.Nat.{ℕ, zero, suc, ◌+◌, ◌-◌}
 use native.Mathlib.Omega.{arith}
-use lib.ListN.{take, drop}
+use lib.ListN.{length, take, drop}
 use Rattle.model.specs.declared.Kind.{Kind}
 use Rattle.model.specs.Bytes.{Bytes}
 use Rattle.path_bytes.specs.Layout.{entry_length, name_length, step_kind}
 use Rattle.path_bytes.specs.Reading.{kind_numbered, steps_at}
+
+pub length_steps : (p : Bytes) (e body n : ℕ) → length (steps_at p e body n) ≡ n
+unfolding steps_at
+length_steps p e body zero = refl
+length_steps p e body (suc n) = ap suc (length_steps p (e + entry_length) (body + name_length p e) n)
 
 module _ (p : Bytes) (entry body count : ℕ) where
   pub steps_none : count ≡ 0 → steps_at p entry body count ≡ []

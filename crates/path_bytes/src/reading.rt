@@ -84,6 +84,14 @@ impl<'a> Iterator for Steps<'a> {
 impl<'a> Steps<'a> {
     ghost use Rattle.path_bytes.specs.Steps.{steps_of};
 
+    // How many are left.
+    #[tactic(auto, using(crate::proofs::Stepping::length_steps))]
+    pub fn len(&self) -> usize
+        ensures { (result ≡ length (steps_of self.now)) × (result ≤ 12288) }
+    {
+        self.count
+    }
+
     // Those of a whole path.
     pub fn of(path: &'a [u8]) -> Steps<'a>
         requires { PathIn path.now }
