@@ -6,8 +6,7 @@
 const STDIN: i32 = 0;
 
 fn main() {
-    let mut space = io::large_buffer();
-    let input: &mut [u8] = &mut space;
-    let n = io::read_full(STDIN, input);
-    test_report::program(text::part(input, 0, n));
+    let mut input = io::large_buffer();
+    let n = io::read_full(STDIN, &mut input);
+    test_report::program(&input[..n]);
 }

@@ -2,10 +2,12 @@
 // with its message line.
 #![tactic(auto)]
 
-use accessors::GivenCounts;
-use export::Written;
-use parse::{Answer, Refusal};
+use model::Fault;
+use parse::Refusal;
 use test_output::{print, print_number};
+
+// The program reads this many bytes at most.
+const INPUT_LIMIT: usize = 16384;
 
 // A word, a number and the end of the line.
 fn print_count(word: &[u8], n: usize) {
@@ -15,61 +17,49 @@ fn print_count(word: &[u8], n: usize) {
 }
 
 // What was written to the front of the output.
-fn print_written(written: Written, out: &[u8]) {
-    match written {
-        Written::Refused(_) => (),
-        Written::Wrote(n) => print(text::part(out, 0, n)),
+fn print_written(written: Result<usize, Fault>, out: &[u8]) {
+    if let Ok(size) = written {
+        print(text::part(out, 0, size));
     }
 }
 
 // The counts of a record, and its GAF lines.
 fn print_record(b: &[u8]) {
-    match accessors::counts(b) {
-        GivenCounts::Refused(_) => (),
-        GivenCounts::Are {
-            names,
-            subgraph,
-            translation,
-        } => {
-            print_count(b"names ", names);
-            print_count(b"subgraph ", subgraph);
-            print_count(b"translation ", translation);
-        }
+    if let Ok(counts) = accessors::counts(b) {
+        print_count(b"names ", counts.names);
+        print_count(b"subgraph ", counts.subgraph);
+        print_count(b"translation ", counts.translation);
     }
-    let mut space = io::large_buffer();
-    let out: &mut [u8] = &mut space;
-    let written = export::to_gaf_header_lines(b, out);
-    print_written(written, out);
+    let mut out = io::large_buffer();
+    let written = export::to_gaf_header_lines(b, &mut out);
+    print_written(written, &out);
 }
 
 // The number and the line of a refusal of a text, and its message on a line of its own.
-fn print_refusal(t: &[u8], refusal: Refusal) {
-    let number = refusal.number;
-    let line = refusal.line;
-    let part = text::part(t, refusal.start, refusal.size);
+fn print_refusal(text: &[u8], refusal: Refusal) {
+    let number = u32::from(refusal.fault) as usize;
+    let part = text::part(text, refusal.start, refusal.size);
     print(b"refused ");
     print_number(number);
-    print_count(b" line ", line);
-    let mut space = io::large_buffer();
-    let out: &mut [u8] = &mut space;
-    let written = export::error_message(number, line, part, out);
-    print_written(written, out);
+    print_count(b" line ", refusal.line);
+    let mut out = io::large_buffer();
+    let written = export::error_message(number, refusal.line, part, &mut out);
+    print_written(written, &out);
     print(b"\n");
 }
 
 // Reads a text into a record, and prints what comes of it.
-pub fn run(t: &[u8]) {
-    let mut space = record::empty_record();
-    let b: &mut [u8] = &mut space;
-    match parse::from_header_lines(t, b) {
-        Answer::Done => print_record(b),
-        Answer::Refused(refusal) => print_refusal(t, refusal),
+pub fn run(text: &[u8]) {
+    let mut record = record::empty_record();
+    match parse::from_header_lines(text, &mut record) {
+        Ok(()) => print_record(&record),
+        Err(refusal) => print_refusal(text, refusal),
     }
 }
 
 // The record program on an input of any length.
 pub fn program(input: &[u8]) {
-    if 16384 < input.len() {
+    if INPUT_LIMIT < input.len() {
         print(b"input over 16384 bytes\n");
         return;
     }
