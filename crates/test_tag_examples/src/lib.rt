@@ -8,11 +8,11 @@ mod limits;
 use test_examples::Counts;
 
 // All of example 19.
-pub fn run_tags(c: Counts) -> Counts {
-    let d = limits::tags_limit(c);
-    let e = limits::key_limit(d);
-    let f = limits::value_limit(e);
-    let g = limits::capitals(f);
-    let h = limits::record_limit(g);
-    blocks::both_blocks(h)
+pub fn run_tags(counts: Counts) -> Counts {
+    let counts = limits::tags_limit(counts);
+    let counts = limits::key_limit(counts);
+    let counts = limits::value_limit(counts);
+    let counts = limits::capitals(counts);
+    let counts = limits::record_limit(counts);
+    blocks::both_blocks(counts)
 }
