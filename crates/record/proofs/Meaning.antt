@@ -1,6 +1,7 @@
 -- What is read of a record at known places, by the graph name that it means.
-use mathlib.Core.Path.{◌≡◌, sym, ap, ◌∙◌}
-use Rattle.std.specs.Prelude.{Some, None, Ok, slice_get}
+use mathlib.Core.Path.{◌≡◌, refl, sym, ap, ◌∙◌}
+use mathlib.Core.Bool.{true, false≢true}
+use Rattle.std.specs.Prelude.{Option, Some, None, slice_get}
 use Prim.Native.Nat.{ℕ, ◌+◌, ◌*◌, ◌≤◌, ◌<◌}
 use native.Mathlib.Omega.{arith}
 use lib.ListN.{length}
@@ -8,15 +9,15 @@ use Rattle.model.specs.declared.Kind.{Kind}
 use Rattle.model.specs.declared.Kind.TheVariants.{Subgraph, Translation}
 use Rattle.model.specs.declared.holdings.Part.{Part}
 use Rattle.model.specs.Bytes.{Bytes}
-use Rattle.model.specs.Record.{names}
-use Rattle.model.specs.Layout.{pair_length, entry_length, entry_at, name_count, own_number, pair_count, table_at, from_place, to_place, shown}
-use Rattle.model.specs.Opening.{check_of, check_of_both}
+use Rattle.model.specs.Record.{GraphName, names}
+use Rattle.model.specs.Layout.{decode, pair_length, entry_length, entry_at, name_count, own_number, pair_count, table_at, from_place, to_place, shown}
+use Rattle.model.specs.Opening.{is_some}
 use Rattle.model.specs.Questions.{mapped, part_of, pair_parts, pairs_of}
 use Rattle.record.specs.Reader.{place_numbered, counted_pairs, IsPart}
 use Rattle.record.specs.declared.layout.Head.{Head}
 use Rattle.record.specs.Holds.{HoldsRecord, IsReader}
 use Rattle.record.proofs.Own.{own_shown, number_placed}
-use Rattle.record.proofs.Opening.{IsRecord, record_opened, two_opened}
+use Rattle.record.proofs.Opening.{IsRecord, is_record_lem}
 use Rattle.record.proofs.Access.{record_count, record_pair_count, pair_within}
 use Rattle.record.proofs.Parts.{entry_part, name_in_lem, name_out, own_in_lem, pair_in, pair_out}
 
@@ -25,12 +26,13 @@ use Rattle.record.proofs.Parts.{entry_part, name_in_lem, name_out, own_in_lem, p
 holds : (b : Bytes) → IsRecord b → HoldsRecord b
 holds b r = let s = r.held in record { decoded = r.decoded; long = s.long; count = s.count; own = s.own; subgraphs = s.subgraphs; translations = s.translations }
 
--- a buffer with no fault is the record that it shows
-pub record_held : (b : Bytes) → check_of b ≡ Ok tt → HoldsRecord b
-record_held b z = holds b (record_opened b z).0
-
-pub records_held : (b c : Bytes) → check_of_both b c ≡ Ok tt → HoldsRecord b × HoldsRecord c
-records_held b c z = let r = two_opened b c z in (holds b r.0, holds c r.1)
+-- a buffer that decodes is the record that it shows
+pub record_known : (b : Bytes) → is_some (decode b) ≡ true → HoldsRecord b
+record_known b v = go (decode b) refl v
+  where
+    go : (o : Option GraphName) → decode b ≡ o → is_some o ≡ true → HoldsRecord b
+    go None e t = absurd (false≢true t)
+    go (Some g) e t = holds b (is_record_lem b g e).1
 
 -- ------------------------------------------------------------------ what stands where
 

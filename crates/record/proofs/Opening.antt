@@ -79,10 +79,13 @@ pub record IsRecord (b : Bytes) : Type 0 where
   pub decoded : decode b ≡ Some (shown b)
   pub held : Held b
 
-is_record_lem : (b : Bytes) (g : GraphName) → decode b ≡ Some g → (g ≡ shown b) × IsRecord b
+pub is_record_lem : (b : Bytes) (g : GraphName) → decode b ≡ Some g → (g ≡ shown b) × IsRecord b
 is_record_lem b g d =
     let s = decode_shown b g d in
     (sym s, record { decoded = d ∙ ap (λ (h : GraphName). Some h) (sym s); held = decode_held b g d })
+
+pub shown_decoded : (b : Bytes) → IsRecord b → is_some (decode b) ≡ true
+shown_decoded b r = rw r.decoded refl
 
 -- ------------------------------------------------------------------ one record
 

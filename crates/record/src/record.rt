@@ -1,8 +1,8 @@
 // A record: a buffer that was tested, with its four counts, seen as the graph name that it means.
-ghost use Rattle.std.specs.Prelude.{◌≡◌, length, slice_get};
+ghost use Rattle.std.specs.Prelude.{◌≡◌, true, length, slice_get};
 ghost use Rattle.std.specs.Option.{option_copied};
 ghost use Rattle.model.specs.Record.{names};
-ghost use Rattle.model.specs.Opening.{opened, record_in, two_records};
+ghost use Rattle.model.specs.Opening.{is_some, opened, record_in, two_records};
 ghost use Rattle.model.specs.Questions.{mapped, part_of, pair_parts, pairs_of};
 
 use crate::layout;
@@ -31,7 +31,7 @@ impl<'a> Model for Record<'a> {
 }
 
 impl<'a> Record<'a> {
-    ghost use Rattle.model.specs.Layout.{shown};
+    ghost use Rattle.model.specs.Layout.{shown, decode};
     ghost use Rattle.record.specs.Holds.{HoldsRecord};
 
     // The record that a buffer is: refused for its length, or else for its contents.
@@ -39,10 +39,7 @@ impl<'a> Record<'a> {
         ensures { result ≡ opened (record_in b.now) }
     {
         check(b)?;
-        Ok(Record {
-            bytes: b,
-            head: head_at(b),
-        })
+        Ok(Record::of(b))
     }
 
     // The records that two buffers are: refused for the length of either, or else for the contents of either.
@@ -50,16 +47,18 @@ impl<'a> Record<'a> {
         ensures { result ≡ opened (two_records b.now c.now) }
     {
         check_both(b, c)?;
-        Ok((
-            Record {
-                bytes: b,
-                head: head_at(b),
-            },
-            Record {
-                bytes: c,
-                head: head_at(c),
-            },
-        ))
+        Ok((Record::of(b), Record::of(c)))
+    }
+
+    // The record that a buffer is known to be.
+    pub fn of(b: &'a [u8]) -> Record<'a>
+        requires { is_some (decode b.now) ≡ true }
+        ensures { result ≡ shown b.now }
+    {
+        Record {
+            bytes: b,
+            head: head_at(b),
+        }
     }
 
     // The buffer.
