@@ -9,7 +9,7 @@ use Prim.Native.Nat.{ℕ, ◌+◌, ◌≤◌, ◌<◌}
 use native.Mathlib.Omega.{arith}
 use lib.ListN.{length}
 use lib.Dec.{leb}
-use Rattle.model.specs.declared.fault.Fault.TheVariants.{OutputShort, BadKey}
+use Rattle.model.specs.declared.fault.Fault.TheVariants.{OutputShort, BadKey, NotATagList}
 use borrow.Author.Tests.{leb-true, le-leb}
 use Rattle.model.specs.Bytes.{Bytes, same_bytes}
 use Rattle.model.specs.Opening.{Given, and_then, or_refuse, number_of, is_some}
@@ -27,7 +27,7 @@ use Rattle.graph_tags.proofs.ThreeSet.{three_set}
 use Rattle.tag_edits.proofs.Outcome.{tag_list_gives, with_key_gives, with_key_accepted, judged_gives, judged_accepted, value_decoded, value_encoded, look_unstored, parts_look, parts_listed, changed_value}
 
 -- what is given is the same
-given : {x y : Option Bytes} → Ok x ≡ Ok y → x ≡ y
+given : {x y : Option Bytes} → ◌≡◌ {A = Given (Option Bytes)} (Ok x) (Ok y) → x ≡ y
 given e = cc
 
 -- ------------------------------------------------------------------ where keys and values stand
@@ -37,9 +37,9 @@ unfolding value_in get_in tag_list ready_key
 got b key = go (decode_tags b) refl (fine_key key)
   where
     go : (o : Option (List Tag)) → decode_tags b ≡ o → (t : Bool)
-        → and_then (or_refuse 29 o) (λ ts. and_then (cond t (Ok (lower key)) (Err BadKey)) λ k. Ok (look_up k ts))
+        → and_then (or_refuse NotATagList o) (λ ts. and_then (cond t (Ok (lower key)) (Err BadKey)) λ k. Ok (look_up k ts))
         ≡ and_then
-        (and_then (or_refuse 29 o) (λ ts. and_then (cond t (Ok (lower key)) (Err BadKey)) λ k. Ok (mapped value_part (parts_with (keys_after (length ts)) k ts))))
+        (and_then (or_refuse NotATagList o) (λ ts. and_then (cond t (Ok (lower key)) (Err BadKey)) λ k. Ok (mapped value_part (parts_with (keys_after (length ts)) k ts))))
         λ o. Ok (mapped (part_in b) o)
     go None d t = refl
     go (Some ts) d false = refl

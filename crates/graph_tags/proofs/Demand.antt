@@ -8,7 +8,8 @@ use Prim.Native.Nat.{ℕ, suc, ◌≤◌}
 use native.Mathlib.Omega.{arith}
 use lib.ListN.{length}
 use lib.Dec.{leb}
-use Rattle.model.specs.declared.fault.Fault.TheVariants.{WrongBuffer, OutputShort, BadKey, LongValue, TagsFull}
+use Rattle.model.specs.declared.fault.Fault.TheVariants.{WrongBuffer, NotARecord, OutputShort, BadKey, LongValue, TagsFull, NotATagList}
+use Rattle.model.specs.Faults.{fault_number}
 use borrow.Author.Tests.{leb-true}
 use Rattle.model.specs.Bytes.{Bytes}
 use Rattle.model.specs.Record.{GraphName}
@@ -34,7 +35,7 @@ Refusal ns n = Memᴰ n ns × (n ≢ 0)
 
 -- one of these refusals, or an answer of which P holds
 abbrev Yields : {A : Type 0} → List ℕ → (A → Type 0) → Given A → Type 0
-Yields ns P (Err n) = Refusal ns n
+Yields ns P (Err e) = Refusal ns (fault_number e)
 Yields ns P (Ok a) = P a
 
 -- a block b changed: it has the size of a tag list, and the new tags are one
@@ -54,7 +55,7 @@ module _ (ns : List ℕ) where
     unfolding tag_list
     list_yields b f r h = go (decode_tags b) refl
       where
-        go : (o : Option (List Tag)) → decode_tags b ≡ o → Yields ns P (and_then (or_refuse 29 o) f)
+        go : (o : Option (List Tag)) → decode_tags b ≡ o → Yields ns P (and_then (or_refuse NotATagList o) f)
         go None d = r
         go (Some ts) d = h ts d
 
@@ -73,7 +74,7 @@ module _ (ns : List ℕ) where
     unfolding opened
     record_yields buffer f r s h = go (has_size buffer) (decode buffer)
       where
-        go : (t : Bool) (o : Option GraphName) → Yields ns P (and_then (cond t (or_refuse 16 o) (Err WrongBuffer)) f)
+        go : (t : Bool) (o : Option GraphName) → Yields ns P (and_then (cond t (or_refuse NotARecord o) (Err WrongBuffer)) f)
         go false o = r
         go true None = s
         go true (Some g) = h g

@@ -9,7 +9,7 @@ use Prim.Native.Nat.{ℕ, ◌+◌, ◌≤◌, ◌<◌}
 use native.Mathlib.Omega.{arith}
 use lib.ListN.{length}
 use lib.Dec.{leb}
-use Rattle.model.specs.declared.fault.Fault.TheVariants.{WrongBuffer, OutputShort, BadKey, LongValue, TagsFull}
+use Rattle.model.specs.declared.fault.Fault.TheVariants.{WrongBuffer, NotARecord, OutputShort, BadKey, LongValue, TagsFull, NotATagList}
 use borrow.Author.Tests.{leb-true, leb-false, le-leb, lt-leb, eqb-true, eqb-false}
 use Rattle.model.specs.Bytes.{Bytes}
 use Rattle.model.specs.Record.{GraphName}
@@ -40,7 +40,7 @@ list_refused : {A : Type 0} (b : Bytes) (f : List Tag → Given A) → ((ts : Li
 unfolding tag_list
 list_refused b f h = go (decode_tags b)
   where
-    go : (o : Option (List Tag)) → number_of (and_then (or_refuse 29 o) f) ≡ 29 ↔ o ≡ None
+    go : (o : Option (List Tag)) → number_of (and_then (or_refuse NotATagList o) f) ≡ 29 ↔ o ≡ None
     go None = (λ e. refl, λ e. refl)
     go (Some ts) = (λ e. absurd (h ts e), λ e. absurd (some_not ts e))
 
@@ -56,7 +56,7 @@ at_number b i = list_refused b _ (λ ts e. omega arith)
 
 -- what an entry with a key gives, by the list, if any, and whether the key is fine
 abbrev keyed : {A : Type 0} → Bytes → (List Tag → Bytes → Given A) → Option (List Tag) → Bool → Given A
-keyed key f o t = and_then (or_refuse 29 o) λ ts. and_then (cond t (Ok (lower key)) (Err BadKey)) λ k. f ts k
+keyed key f o t = and_then (or_refuse NotATagList o) λ ts. and_then (cond t (Ok (lower key)) (Err BadKey)) λ k. f ts k
 
 module _ {A : Type 0} (b key : Bytes) (f : List Tag → Bytes → Given A) where
   -- the list and the key are refused by every entry in the same way
@@ -210,15 +210,15 @@ output_number b key room z =
     rw (remove_fits b key ts a.decoded a.fine room, value_decoded b ts key a.decoded a.fine)
     (go (look_up k ts) (record { value = look_up k ts; rest = remove_tag k ts }))
   where
-    go : (o : Option Bytes) (r : Removal) → number_of (cond (fits o room) (Ok r) (Err OutputShort)) ≡ 17 ↔ ((v : Bytes) × (Ok o ≡ Ok (Some v)) × (room < length v))
+    go : (o : Option Bytes) (r : Removal) → number_of (cond (fits o room) (Ok r) (Err OutputShort)) ≡ 17 ↔ ((v : Bytes) × (◌≡◌ {A = Given (Option Bytes)} (Ok o) (Ok (Some v))) × (room < length v))
     go None r = (λ e. absurd (omega arith), λ p. let x = p.1 in let z : ◌≡◌ {A = ℕ} 0 1 = cc in absurd (omega arith))
     go (Some w) r = cut (leb (length w) room) refl
       where
-        same : (v : Bytes) → Ok (Some w) ≡ Ok (Some v) → w ≡ v
+        same : (v : Bytes) → ◌≡◌ {A = Given (Option Bytes)} (Ok (Some w)) (Ok (Some v)) → w ≡ v
         same v e = cc
 
         cut : (t : Bool) → leb (length w) room ≡ t
-            → number_of (cond t (Ok r) (Err OutputShort)) ≡ 17 ↔ ((v : Bytes) × (Ok (Some w) ≡ Ok (Some v)) × (room < length v))
+            → number_of (cond t (Ok r) (Err OutputShort)) ≡ 17 ↔ ((v : Bytes) × (◌≡◌ {A = Given (Option Bytes)} (Ok (Some w)) (Ok (Some v))) × (room < length v))
         cut true e =
             let h = leb-true (length w) room e in
             (λ z. absurd (omega arith), λ p. absurd (omega (arith, p.2, ap length (same p.0 p.1))))
@@ -239,7 +239,7 @@ module _ {A : Type 0} (buffer : Bytes) (f : GraphName → Given A) where
   record_size h = go (has_size buffer) refl (decode buffer)
     where
       go : (t : Bool) → has_size buffer ≡ t → (o : Option GraphName)
-          → number_of (and_then (cond t (or_refuse 16 o) (Err WrongBuffer)) f) ≡ 15 ↔ length buffer ≢ record_length
+          → number_of (and_then (cond t (or_refuse NotARecord o) (Err WrongBuffer)) f) ≡ 15 ↔ length buffer ≢ record_length
       go false e o = (λ z. eqb-false (length buffer) record_length e, λ n. refl)
       go true e None = (λ z. absurd (omega arith), λ n. absurd (n (eqb-true (length buffer) record_length e)))
       go true e (Some g) = (λ z. absurd (h g z), λ n. absurd (n (eqb-true (length buffer) record_length e)))
@@ -250,7 +250,7 @@ module _ {A : Type 0} (buffer : Bytes) (f : GraphName → Given A) where
   record_contents h = go (has_size buffer) refl (decode buffer)
     where
       go : (t : Bool) → has_size buffer ≡ t → (o : Option GraphName)
-          → number_of (and_then (cond t (or_refuse 16 o) (Err WrongBuffer)) f) ≡ 16 ↔ (length buffer ≡ record_length) × (o ≡ None)
+          → number_of (and_then (cond t (or_refuse NotARecord o) (Err WrongBuffer)) f) ≡ 16 ↔ (length buffer ≡ record_length) × (o ≡ None)
       go false e o = (λ z. absurd (omega arith), λ p. absurd (eqb-false (length buffer) record_length e p.0))
       go true e None = (λ z. (eqb-true (length buffer) record_length e, refl), λ p. refl)
       go true e (Some g) = (λ z. absurd (h g z), λ p. absurd (some_not g p.1))
@@ -266,7 +266,7 @@ module _ (b buffer : Bytes) where
   three_own g = go (decode_tags b)
     where
       go : (o : Option (List Tag))
-          → (number_of (and_then (or_refuse 29 o) (three_judged g)) ≢ 15) × (number_of (and_then (or_refuse 29 o) (three_judged g)) ≢ 16)
+          → (number_of (and_then (or_refuse NotATagList o) (three_judged g)) ≢ 15) × (number_of (and_then (or_refuse NotATagList o) (three_judged g)) ≢ 16)
       go None = omega arith
       go (Some ts) = let own = judged_own (short_tags (tags_of g)) (set_graph_name g ts) in (own.not_size, own.not_contents)
 

@@ -1,82 +1,74 @@
--- A block after a change is a tag list again; and a record's three tags, as they were written to outputs, are the same changes.
-use mathlib.Core.Path.{◌≡◌, refl, sym, ap, ◌∙◌}
-use mathlib.Core.Bool.{true, false}
-use mathlib.Core.List.{List}
+-- A record's three tags put into a block: what is counted, removed and set is what the changes come to one after the other.
+use mathlib.Core.Path.{◌≡◌, refl, sym, ap, subst, ◌∙◌}
+use mathlib.Core.Bool.{Bool, true, false, cond, not, ◌&&◌}
+use mathlib.Core.List.{List, [], ◌∷◌, map}
 use Rattle.std.specs.Prelude.{Option, Ok, Err}
-use Prim.Native.Nat.{◌+◌, ◌≤◌}
+use Prim.Native.Nat.{ℕ, ◌+◌, ◌≤◌}
 use native.Mathlib.Omega.{arith}
-use lib.ListN.{length, take, length-take}
+use native.Mathlib.Nat.{zero-add}
+use lib.ListN.{length, get_or, get_or-map, length-map}
 use lib.Dec.{ltb}
+use Rattle.std.specs.List.{All}
+use Rattle.std.proofs.lemmas.List.Elements.{All-nil, All-cons, All-get_or}
+use Rattle.std.proofs.lemmas.List.Recursion.{is_count_by}
 use Rattle.model.specs.declared.fault.Fault.TheVariants.{TagsFull}
-use borrow.Author.Tests.{le-leb, ltb-true, ltb-false}
+use borrow.Author.Tests.{ltb-true, ltb-false}
 use Rattle.model.specs.Bytes.{Bytes, every_byte}
 use Rattle.model.specs.Opening.{is_some}
 use Rattle.model.specs.Written.{fits}
-use Rattle.model.specs.TagList.{max_tags, max_value, stored_key, encode_tags, shown_tags, decode_tags}
-use Rattle.model.specs.TagList as list
+use Rattle.model.specs.TagList.{Tag, look_up, max_tags, max_value, stored_key, encode_tags, shown_tags, decode_tags}
 use Rattle.model.specs.TagOutcome.{judged_tags}
 use Rattle.model.specs.TagStatements.{ValidTags}
-use Rattle.export.specs.declared.answer.Tag.{Tag}
-use Rattle.export.specs.declared.answer.Tag.TheVariants.{Absent, Size}
-use Rattle.tag_list.proofs.Coding.{tags_encoded, decode_shown}
-use Rattle.tag_list.proofs.Valid.{remove_valid}
 use Rattle.tag_list.proofs.Walk.{holds}
-use Rattle.graph_tags.specs.Change.{remove_absent, set_present, added, gone, changed, cleared, filled, name_key, subgraph_key, translation_key}
-use Rattle.graph_tags.specs.Three.{value_at, added_by, gone_by, removed_by, three_added, three_gone, three_removed}
-use Rattle.graph_tags.proofs.Change.{present_kept, present_longer, present_valid}
-use Rattle.graph_tags.proofs.ThreeTags.{name_not_subgraph, name_not_translation, subgraph_not_translation, apart_same, length_changed}
 use Rattle.tag_edits.proofs.Outcome.{judged_gives}
 use Rattle.tag_edits.proofs.Inserting.{judged_many}
+use Rattle.graph_tags.specs.declared.change.Change.{Change}
+use Rattle.graph_tags.specs.Change.{IsFit, value_of, remove_absent, set_present, cleared, filled, added, gone, pair_of, name_key, subgraph_key, translation_key, three_pairs, three_changed}
+use Rattle.graph_tags.proofs.OneChange.{added_by, gone_by, absent_valid}
+use Rattle.graph_tags.proofs.ThreeTags.{name_not_subgraph, name_not_translation, subgraph_not_translation, apart_same, length_changed}
+use Rattle.graph_tags.proofs.Listed.{listed_is, listed_shown}
 
--- a block that holds a list within the sizes
-pub record Listed (b : Bytes) (ts : List list.Tag) : Type 0 where
-  pub is : is_some (decode_tags b) ≡ true
-  pub shown : shown_tags b ≡ ts
+abbrev Pairs : Type 0
+Pairs = List (Bytes × Option Bytes)
 
-pub listed : (b : Bytes) (ts : List list.Tag) → b ≡ encode_tags ts → ValidTags ts → Listed b ts
-listed b ts e v =
-    let d = tags_encoded ts v in
-    rw e (record { is = rw d; shown = decode_shown (encode_tags ts) ts d })
+-- the same of changes by what they are alone
+abbrev pairs_cleared : Pairs → List Tag → List Tag
+pairs_cleared [] ts = ts
+pairs_cleared (p ∷ ps) ts = pairs_cleared ps (remove_absent p.0 p.1 ts)
 
-pub removed_valid : (tag : Tag) (k : Bytes) (ts : List list.Tag) → ValidTags ts → ValidTags (removed_by tag k ts)
-removed_valid Absent k ts v = remove_valid k ts v
-removed_valid (Size n) k ts v = v
+abbrev pairs_filled : Pairs → List Tag → List Tag
+pairs_filled [] ts = ts
+pairs_filled (p ∷ ps) ts = pairs_filled ps (set_present p.0 p.1 ts)
 
--- a block after one removal
-pub removed_listed : (b : Bytes) (tag : Tag) (k : Bytes) → is_some (decode_tags b) ≡ true
-    → (b' : Bytes) → b' ≡ encode_tags (removed_by tag k (shown_tags b)) → Listed b' (removed_by tag k (shown_tags b))
-removed_listed b tag k d b' e = listed b' (removed_by tag k (shown_tags b)) e (removed_valid tag k (shown_tags b) (holds b d).valid)
+abbrev pairs_added : Pairs → List Tag → ℕ
+pairs_added [] ts = 0
+pairs_added (p ∷ ps) ts = added_by p.0 p.1 ts + pairs_added ps ts
 
--- ------------------------------------------------------------------ by the tags' values
+abbrev pairs_gone : Pairs → List Tag → ℕ
+pairs_gone [] ts = 0
+pairs_gone (p ∷ ps) ts = gone_by p.0 p.1 ts + pairs_gone ps ts
 
-module _ (tag : Tag) (value k : Bytes) (ts : List list.Tag) where
-  pub removed_same : removed_by tag k ts ≡ remove_absent k (value_at tag value) ts
-  removed_same = go tag
-    where
-      go : (t : Tag) → removed_by t k ts ≡ remove_absent k (value_at t value) ts
-      go Absent = refl
-      go (Size n) = refl
+cleared_by_pairs : (cs : List Change) (ts : List Tag) → cleared cs ts ≡ pairs_cleared (map pair_of cs) ts
+cleared_by_pairs [] ts = refl
+cleared_by_pairs (c ∷ cs) ts = cleared_by_pairs cs _
 
-  pub added_by_lem : added_by tag k ts ≡ added k (value_at tag value) ts
-  added_by_lem = go tag
-    where
-      go : (t : Tag) → added_by t k ts ≡ added k (value_at t value) ts
-      go Absent = refl
-      go (Size n) = refl
+filled_by_pairs : (cs : List Change) (ts : List Tag) → filled cs ts ≡ pairs_filled (map pair_of cs) ts
+filled_by_pairs [] ts = refl
+filled_by_pairs (c ∷ cs) ts = filled_by_pairs cs _
 
-  pub gone_by_lem : gone_by tag k ts ≡ gone k (value_at tag value) ts
-  gone_by_lem = go tag
-    where
-      go : (t : Tag) → gone_by t k ts ≡ gone k (value_at t value) ts
-      go Absent = refl
-      go (Size n) = refl
+one_more : (b : Bool) (n : ℕ) → cond b 1 0 + n ≡ cond b (1 + n) n
+one_more true n = refl
+one_more false n = zero-add n
 
--- ------------------------------------------------------------------ three tags
+added_by_pairs : (cs : List Change) (ts : List Tag) → added cs ts ≡ pairs_added (map pair_of cs) ts
+added_by_pairs cs ts =
+    sym (is_count_by (λ xs. pairs_added (map pair_of xs) ts) (λ c. is_some (value_of c) && not (is_some (look_up c.key.now ts))) refl (λ c xs. one_more _ _) cs)
 
--- a value at the front of an output that is not long is not long
-value_fits : (tag : Tag) (value : Bytes) → length value ≤ max_value → fits (value_at tag value) max_value ≡ true
-value_fits Absent value h = refl
-value_fits (Size n) value h = le-leb (length (take n value)) max_value (rw length-take (omega arith))
+gone_by_pairs : (cs : List Change) (ts : List Tag) → gone cs ts ≡ pairs_gone (map pair_of cs) ts
+gone_by_pairs cs ts =
+    sym (is_count_by (λ xs. pairs_gone (map pair_of xs) ts) (λ c. not (is_some (value_of c)) && is_some (look_up c.key.now ts)) refl (λ c xs. one_more _ _) cs)
+
+-- ------------------------------------------------------------------ the three
 
 pub name_stored : stored_key name_key ≡ true
 unfolding stored_key every_byte
@@ -90,110 +82,58 @@ pub translation_stored : stored_key translation_key ≡ true
 unfolding stored_key every_byte
 translation_stored = refl
 
--- the three set one after the other: what each step asks, and leaves
-pub record Filling (ts : List list.Tag) (n s t : Option Bytes) : Type 0 where
-  pub name_stored : stored_key name_key ≡ true
-  pub subgraph_stored : stored_key subgraph_key ≡ true
-  pub translation_stored : stored_key translation_key ≡ true
-  pub first_few : length (set_present name_key n ts) ≤ max_tags
-  pub first_valid : ValidTags (set_present name_key n ts)
-  pub second_few : length (set_present subgraph_key s (set_present name_key n ts)) ≤ max_tags
-  pub second_valid : ValidTags (set_present subgraph_key s (set_present name_key n ts))
+cleared_valid : (ps : Pairs) (ts : List Tag) → ValidTags ts → ValidTags (pairs_cleared ps ts)
+cleared_valid [] ts v = v
+cleared_valid (p ∷ ps) ts v = cleared_valid ps (remove_absent p.0 p.1 ts) (absent_valid p.0 p.1 ts v)
 
-module _ (ts : List list.Tag) (name subgraph translation : Tag) (name_value subgraph_value translation_value : Bytes) (v : ValidTags ts) where
-  abbrev n : Option Bytes
-  n = value_at name name_value
+module _ (cs : List Change) (n s t : Option Bytes) (e : map pair_of cs ≡ three_pairs n s t) where
+  -- a short key, and what may be stored
+  pub three_fit : fits n max_value ≡ true → fits s max_value ≡ true → fits t max_value ≡ true → All IsFit cs
+  three_fit f g h k d l =
+      let P : Bytes × Option Bytes → Type 0 = λ p. (stored_key p.0 ≡ true) × (fits p.1 max_value ≡ true) in
+      let all : All P (three_pairs n s t) =
+      All-cons P (name_key, n) ((subgraph_key, s) ∷ (translation_key, t) ∷ []) (name_stored, f)
+      (All-cons P (subgraph_key, s) ((translation_key, t) ∷ []) (subgraph_stored, g) (All-cons P (translation_key, t) [] (translation_stored, h) (All-nil P))) in
+      let same : get_or (three_pairs n s t) k (pair_of d) ≡ pair_of (get_or cs k d) = rw e at (get_or-map pair_of cs k d) in
+      subst P same (All-get_or P (three_pairs n s t) k (pair_of d) (omega (arith, ap length e, length-map cs pair_of)) all)
 
-  abbrev s : Option Bytes
-  s = value_at subgraph subgraph_value
+  module _ (b : Bytes) (d : is_some (decode_tags b) ≡ true) where
+    abbrev ts : List Tag
+    ts = shown_tags b
 
-  abbrev t : Option Bytes
-  t = value_at translation translation_value
+    three_same : three_changed n s t ts ≡ filled cs (cleared cs ts)
+    three_same =
+        apart_same name_key subgraph_key translation_key name_not_subgraph name_not_translation subgraph_not_translation n s t ts (holds b d).valid.order
+        ∙ sym (rw (filled_by_pairs cs, cleared_by_pairs cs, e))
 
-  pub filling : length name_value ≤ max_value → length subgraph_value ≤ max_value → length translation_value ≤ max_value
-      → length (filled name_key subgraph_key translation_key n s t ts) ≤ max_tags → Filling ts n s t
-  filling h i j few =
-      let us = set_present name_key n ts in
-      let kept = present_kept name_key n ts v.order in
-      let to_end = present_longer translation_key t (set_present subgraph_key s us) (present_kept subgraph_key s us kept) in
-      let to_second = present_longer subgraph_key s us kept in
-      let second : length (set_present subgraph_key s us) ≤ max_tags = omega arith in
-      let first : length us ≤ max_tags = omega arith in
-      let first_valid = present_valid name_key n ts v name_stored (value_fits name name_value h) first in
-      record {
-        name_stored = name_stored;
-        subgraph_stored = subgraph_stored;
-        translation_stored = translation_stored;
-        first_few = first;
-        first_valid = first_valid;
-        second_few = second;
-        second_valid = present_valid subgraph_key s us first_valid subgraph_stored (value_fits subgraph subgraph_value i) second;
-      }
+    counted : length (three_changed n s t ts) + gone cs ts ≡ length ts + added cs ts
+    counted =
+        let l = length_changed name_key subgraph_key translation_key name_not_subgraph name_not_translation subgraph_not_translation n s t ts (holds b d).valid.order in
+        rw (gone_by_pairs cs, added_by_pairs cs, e) (omega (arith, l))
 
-  cleared_same : three_removed name subgraph translation ts ≡ cleared name_key subgraph_key translation_key n s t ts
-  cleared_same =
-      rw (
-        removed_same name name_value name_key ts,
-        removed_same subgraph subgraph_value subgraph_key (remove_absent name_key n ts),
-        removed_same translation translation_value translation_key (remove_absent subgraph_key s (remove_absent name_key n ts)),
-      )
+    -- too many in the end, or not
+    pub three_full : ltb (max_tags + gone cs ts) (length ts + added cs ts) ≡ true → judged_tags true (three_changed n s t ts) ≡ Err TagsFull
+    three_full h =
+        let l = ltb-true (max_tags + gone cs ts) (length ts + added cs ts) h in
+        judged_many true (three_changed n s t ts) refl (omega (arith, counted))
 
-  three_same : changed name_key subgraph_key translation_key n s t ts ≡ filled name_key subgraph_key translation_key n s t (three_removed name subgraph translation ts)
-  three_same =
-      apart_same name_key subgraph_key translation_key name_not_subgraph name_not_translation subgraph_not_translation n s t ts v.order
-      ∙ ap (filled name_key subgraph_key translation_key n s t) (sym cleared_same)
+    pub three_few : ltb (max_tags + gone cs ts) (length ts + added cs ts) ≡ false → length (filled cs (cleared cs ts)) ≤ max_tags
+    three_few h =
+        let l = ltb-false (max_tags + gone cs ts) (length ts + added cs ts) h in
+        let k : length (three_changed n s t ts) ≤ max_tags = omega (arith, counted) in
+        rw three_same at k
 
-  counted : length (changed name_key subgraph_key translation_key n s t ts) + three_gone name subgraph translation ts
-      ≡ length ts + three_added name subgraph translation ts
-  counted =
-      rw (
-        gone_by_lem name name_value name_key ts,
-        gone_by_lem subgraph subgraph_value subgraph_key ts,
-        gone_by_lem translation translation_value translation_key ts,
-        added_by_lem name name_value name_key ts,
-        added_by_lem subgraph subgraph_value subgraph_key ts,
-        added_by_lem translation translation_value translation_key ts,
-      )
-      (length_changed name_key subgraph_key translation_key name_not_subgraph name_not_translation subgraph_not_translation n s t ts v.order)
+    pub three_judged : length (filled cs (cleared cs ts)) ≤ max_tags → judged_tags true (three_changed n s t ts) ≡ Ok (filled cs (cleared cs ts))
+    three_judged few = rw three_same (judged_gives true (filled cs (cleared cs ts)) refl few)
 
-  -- too many in the end, or not
-  pub three_full : ltb (max_tags + three_gone name subgraph translation ts) (length ts + three_added name subgraph translation ts) ≡ true
-      → judged_tags true (changed name_key subgraph_key translation_key n s t ts) ≡ Err TagsFull
-  three_full e =
-      let l = ltb-true (max_tags + three_gone name subgraph translation ts) (length ts + three_added name subgraph translation ts) e in
-      judged_many true (changed name_key subgraph_key translation_key n s t ts) refl (omega (arith, counted))
+    -- the block once the absent ones are removed
+    valid_cleared : ValidTags (cleared cs ts)
+    valid_cleared = rw (cleared_by_pairs cs) (cleared_valid (map pair_of cs) ts (holds b d).valid)
 
-  pub three_few : ltb (max_tags + three_gone name subgraph translation ts) (length ts + three_added name subgraph translation ts) ≡ false
-      → length (filled name_key subgraph_key translation_key n s t (three_removed name subgraph translation ts)) ≤ max_tags
-  three_few e =
-      let l = ltb-false (max_tags + three_gone name subgraph translation ts) (length ts + three_added name subgraph translation ts) e in
-      let k : length (changed name_key subgraph_key translation_key n s t ts) ≤ max_tags = omega (arith, counted) in
-      rw three_same at k
+    pub cleared_is : is_some (decode_tags (encode_tags (cleared cs ts))) ≡ true
+    cleared_is = listed_is (cleared cs ts) valid_cleared
 
-  pub three_judged : length (filled name_key subgraph_key translation_key n s t (three_removed name subgraph translation ts)) ≤ max_tags
-      → judged_tags true (changed name_key subgraph_key translation_key n s t ts)
-      ≡ Ok (filled name_key subgraph_key translation_key n s t (three_removed name subgraph translation ts))
-  three_judged few = rw three_same (judged_gives true (filled name_key subgraph_key translation_key n s t (three_removed name subgraph translation ts)) refl few)
+    pub cleared_shown : shown_tags (encode_tags (cleared cs ts)) ≡ cleared cs ts
+    cleared_shown = listed_shown (cleared cs ts) valid_cleared
 
-pub cleared_valid : (name subgraph translation : Tag) (ts : List list.Tag) → ValidTags ts → ValidTags (three_removed name subgraph translation ts)
-cleared_valid name subgraph translation ts v =
-    removed_valid translation translation_key _ (removed_valid subgraph subgraph_key _ (removed_valid name name_key ts v))
-
--- ------------------------------------------------------------------ three tags put into a block
-
-module _ (b : Bytes) (name subgraph translation : Tag) (name_value subgraph_value translation_value : Bytes)
-    (r : (is_some (decode_tags b) ≡ true) × (length name_value ≤ max_value) × (length subgraph_value ≤ max_value) × (length translation_value ≤ max_value)
-    × (length (filled name_key subgraph_key translation_key (value_at name name_value) (value_at subgraph subgraph_value) (value_at translation translation_value) (shown_tags b)) ≤ max_tags)) where
-  pub fills : Filling (shown_tags b) (value_at name name_value) (value_at subgraph subgraph_value) (value_at translation translation_value)
-  fills = filling (shown_tags b) name subgraph translation name_value subgraph_value translation_value (holds b r.0).valid r.1 r.2 r.3 r.4
-
-  -- the block after the first step, and after the second
-  pub once : (b' : Bytes) → b' ≡ encode_tags (set_present name_key (value_at name name_value) (shown_tags b)) → Listed b' (set_present name_key (value_at name name_value) (shown_tags b))
-  once b' e = listed b' (set_present name_key (value_at name name_value) (shown_tags b)) e fills.first_valid
-
-  pub twice : (b' : Bytes) → b' ≡ encode_tags (set_present name_key (value_at name name_value) (shown_tags b))
-      → (b'' : Bytes) → b'' ≡ encode_tags (set_present subgraph_key (value_at subgraph subgraph_value) (shown_tags b'))
-      → Listed b'' (set_present subgraph_key (value_at subgraph subgraph_value) (set_present name_key (value_at name name_value) (shown_tags b)))
-  twice b' e b'' f =
-      listed b'' (set_present subgraph_key (value_at subgraph subgraph_value) (set_present name_key (value_at name name_value) (shown_tags b)))
-      (f ∙ rw (once b' e).shown) fills.second_valid
+pub ruleset putting = (three_fit, three_full, three_few, three_judged, cleared_is, cleared_shown)

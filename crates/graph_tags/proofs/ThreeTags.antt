@@ -16,14 +16,24 @@ use Rattle.model.specs.TagList.{Tag, compare_tags, look_up, set_or_remove, set_g
 use Rattle.model.specs.TagOutcome.{short_tags}
 use Rattle.model.specs.TagStatements.{ValidTags}
 use Rattle.text.proofs.Tests.{both_true}
-use Rattle.graph_tags.specs.Change.{remove_absent, set_present, added, gone, changed, cleared, filled, name_key, subgraph_key, translation_key}
+use Rattle.graph_tags.specs.Change.{remove_absent, set_present, name_key, subgraph_key, translation_key}
 use Rattle.tag_list.proofs.Map.{same_lists}
 use Rattle.tag_edits.proofs.Outcome.{differ}
-use Rattle.graph_tags.proofs.Change.{same_or_not, change_kept, absent_kept, present_kept}
-use Rattle.graph_tags.proofs.Change.{change_same, absent_same, present_same, change_other, absent_other, present_other}
-use Rattle.graph_tags.proofs.Change.{length_change, added_same, gone_same, present_longer, absent_valid, present_valid}
+use Rattle.graph_tags.proofs.OneChange.{added_by, gone_by, same_or_not, change_kept, absent_kept, present_kept}
+use Rattle.graph_tags.proofs.OneChange.{change_same, absent_same, present_same, change_other, absent_other, present_other}
+use Rattle.graph_tags.proofs.OneChange.{length_change, added_same, gone_same, present_longer, absent_valid, present_valid}
 
 -- ------------------------------------------------------------------ three tags of different keys
+
+-- one after the other, and the absent ones first
+abbrev pub changed : (a b c : Bytes) (n s t : Option Bytes) → List Tag → List Tag
+changed a b c n s t ts = set_or_remove c t (set_or_remove b s (set_or_remove a n ts))
+
+abbrev pub cleared : (a b c : Bytes) (n s t : Option Bytes) → List Tag → List Tag
+cleared a b c n s t ts = remove_absent c t (remove_absent b s (remove_absent a n ts))
+
+abbrev pub filled : (a b c : Bytes) (n s t : Option Bytes) → List Tag → List Tag
+filled a b c n s t ts = set_present c t (set_present b s (set_present a n ts))
 
 module _ (a b c : Bytes) (ab : a ≢ b) (ac : a ≢ c) (bc : b ≢ c) (n s t : Option Bytes) (ts : List Tag) (asc : Ascending compare_tags ts) where
   -- what each key gives, one after the other or the absent ones first
@@ -78,8 +88,8 @@ module _ (a b c : Bytes) (ab : a ≢ b) (ac : a ≢ c) (bc : b ≢ c) (n s t : O
       (present_kept c t _ (present_kept b s _ (present_kept a n _ (absent_kept c t _ (absent_kept b s _ (absent_kept a n ts asc))))))
       same_looks
 
-  pub length_changed : length (changed a b c n s t ts) + (gone a n ts + (gone b s ts + gone c t ts))
-      ≡ length ts + (added a n ts + (added b s ts + added c t ts))
+  pub length_changed : length (changed a b c n s t ts) + (gone_by a n ts + (gone_by b s ts + gone_by c t ts))
+      ≡ length ts + (added_by a n ts + (added_by b s ts + added_by c t ts))
   length_changed =
       let us = set_or_remove a n ts in
       let vs = set_or_remove b s us in
@@ -130,23 +140,6 @@ unfolding same_bytes compare_bytes compare_numbers
 subgraph_not_translation = differ subgraph_key translation_key refl
 
 module _ (g : GraphName) (ts : List Tag) (asc : Ascending compare_tags ts) where
-  pub three_apart : set_graph_name g ts
-      ≡ set_present translation_key (tags_of g).translation (set_present subgraph_key (tags_of g).subgraph (set_present name_key (tags_of g).name
-      (remove_absent translation_key (tags_of g).translation (remove_absent subgraph_key (tags_of g).subgraph (remove_absent name_key (tags_of g).name ts)))))
-  unfolding set_graph_name
-  three_apart =
-      apart_same name_key subgraph_key translation_key name_not_subgraph name_not_translation subgraph_not_translation
-      (tags_of g).name (tags_of g).subgraph (tags_of g).translation ts asc
-
-  pub length_three : length (set_graph_name g ts)
-      + (gone name_key (tags_of g).name ts + (gone subgraph_key (tags_of g).subgraph ts + gone translation_key (tags_of g).translation ts))
-      ≡ length ts
-      + (added name_key (tags_of g).name ts + (added subgraph_key (tags_of g).subgraph ts + added translation_key (tags_of g).translation ts))
-  unfolding set_graph_name
-  length_three =
-      length_changed name_key subgraph_key translation_key name_not_subgraph name_not_translation subgraph_not_translation
-      (tags_of g).name (tags_of g).subgraph (tags_of g).translation ts asc
-
   pub three_valid : ValidTags ts → short_tags (tags_of g) ≡ true → length (set_graph_name g ts) ≤ max_tags → ValidTags (set_graph_name g ts)
   unfolding set_graph_name stored_key every_byte
   three_valid h short few =

@@ -1,9 +1,25 @@
--- One tag set where a value is present and removed where it is absent, and three at once: one after the other, or the absent ones first.
-use Rattle.std.specs.Prelude.{cond, List, ℕ, Option, Some, None}
+-- Tags set where a value is present and removed where it is absent: one after the other, or the absent ones first.
+use Rattle.std.specs.Prelude.{◌≡◌, true, not, ◌&&◌, List, [], ◌∷◌, ℕ, ◌≤◌, length, count_by, Option, Some, None}
+use Rattle.std.specs.Option.{option_copied}
 use Rattle.model.specs.Text.{text}
 use Rattle.model.specs.Bytes.{Bytes}
 use Rattle.model.specs.Opening.{is_some}
-use Rattle.model.specs.TagList.{Tag, look_up, set_tag, remove_tag, set_or_remove}
+use Rattle.model.specs.Written.{fits}
+use Rattle.model.specs.TagList.{Tag, look_up, set_tag, remove_tag, set_or_remove, max_key, max_value, stored_key}
+use Rattle.graph_tags.specs.declared.change.Change.{Change}
+
+abbrev pub value_of : Change → Option Bytes
+value_of c = option_copied c.value
+
+-- a key that is short
+abbrev pub HasKey : Change → Type 0
+HasKey c = length c.key.now ≤ max_key
+
+-- a key and a value that may be stored
+abbrev pub IsFit : Change → Type 0
+IsFit c = (stored_key c.key.now ≡ true) × (fits (value_of c) max_value ≡ true)
+
+-- ------------------------------------------------------------------ one tag
 
 abbrev pub remove_absent : Bytes → Option Bytes → List Tag → List Tag
 remove_absent k None ts = remove_tag k ts
@@ -13,26 +29,26 @@ abbrev pub set_present : Bytes → Option Bytes → List Tag → List Tag
 set_present k None ts = ts
 set_present k (Some v) ts = set_tag k v ts
 
--- how many tags one change adds, and how many it takes away
-abbrev pub added : Bytes → Option Bytes → List Tag → ℕ
-added k None ts = 0
-added k (Some v) ts = cond (is_some (look_up k ts)) 0 1
+-- ------------------------------------------------------------------ several
 
-abbrev pub gone : Bytes → Option Bytes → List Tag → ℕ
-gone k None ts = cond (is_some (look_up k ts)) 1 0
-gone k (Some v) ts = 0
+-- those that have no value removed, and those that have one set
+abbrev pub cleared : List Change → List Tag → List Tag
+cleared [] ts = ts
+cleared (c ∷ cs) ts = cleared cs (remove_absent c.key.now (value_of c) ts)
 
--- one after the other, and the absent ones first
-abbrev pub changed : (a b c : Bytes) (n s t : Option Bytes) → List Tag → List Tag
-changed a b c n s t ts = set_or_remove c t (set_or_remove b s (set_or_remove a n ts))
+abbrev pub filled : List Change → List Tag → List Tag
+filled [] ts = ts
+filled (c ∷ cs) ts = filled cs (set_present c.key.now (value_of c) ts)
 
-abbrev pub cleared : (a b c : Bytes) (n s t : Option Bytes) → List Tag → List Tag
-cleared a b c n s t ts = remove_absent c t (remove_absent b s (remove_absent a n ts))
+-- how many tags are added, and how many are taken away
+abbrev pub added : List Change → List Tag → ℕ
+added cs ts = count_by (λ c. is_some (value_of c) && not (is_some (look_up c.key.now ts))) cs
 
-abbrev pub filled : (a b c : Bytes) (n s t : Option Bytes) → List Tag → List Tag
-filled a b c n s t ts = set_present c t (set_present b s (set_present a n ts))
+abbrev pub gone : List Change → List Tag → ℕ
+gone cs ts = count_by (λ c. not (is_some (value_of c)) && is_some (look_up c.key.now ts)) cs
 
--- the keys of a record's tags
+-- ------------------------------------------------------------------ a record's tags
+
 abbrev pub name_key : Bytes
 name_key = text "pggname"
 
@@ -41,3 +57,14 @@ subgraph_key = text "subgraph"
 
 abbrev pub translation_key : Bytes
 translation_key = text "translation"
+
+-- a change without where its bytes stand
+abbrev pub pair_of : Change → Bytes × Option Bytes
+pair_of c = (c.key.now, value_of c)
+
+abbrev pub three_pairs : (n s t : Option Bytes) → List (Bytes × Option Bytes)
+three_pairs n s t = (name_key, n) ∷ (subgraph_key, s) ∷ (translation_key, t) ∷ []
+
+-- one after the other
+abbrev pub three_changed : (n s t : Option Bytes) → List Tag → List Tag
+three_changed n s t ts = set_or_remove translation_key t (set_or_remove subgraph_key s (set_or_remove name_key n ts))

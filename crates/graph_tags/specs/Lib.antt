@@ -1,3 +1,2 @@
--- One tag changed, and the three tags of a record.
+-- Tags changed.
 pub mod Change
-pub mod Three

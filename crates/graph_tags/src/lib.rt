@@ -4,6 +4,7 @@
 // the list is touched.
 #![tactic(auto)]
 
+mod change;
 mod three;
 
 pub use three::set_graph_name;

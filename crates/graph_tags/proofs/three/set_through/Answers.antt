@@ -1,35 +1,40 @@
 -- The record first, then the list, then the values; those that were written are put in.
-use Rattle.std.proofs.Common.{◌∙◌, sym}
-use Rattle.graph_tags.proofs.Through.{through_refused, through_long_unlisted, through_long, through_unlisted, through_outputs}
+use Rattle.std.proofs.Common.{◌≡◌, sym, ap, ◌∙◌, false, rules}
+use Rattle.std.specs.Prelude.{Ok, Err}
+use Rattle.std.specs.Option.{option_copied}
+use Rattle.model.specs.declared.fault.Fault.TheVariants.{OutputShort}
+use Rattle.model.specs.Opening.{settled}
+use Rattle.model.specs.TagOutcome.{tag_list, list_with}
+use Rattle.graph_tags.proofs.Through.{written, values, name_written, subgraph_written, translation_written, through_refused, through_done, through_values}
 use Rattle.graph_tags.proofs.three.set_through.Goals as goal
 
-pub returns-then-number-ne17 : goal.returns-then-number-ne17
-returns-then-number-ne17 c =
-    let k = rw (c.requires.0, c.requires.1, c.requires.2) at c.in-Refused.ensures.answer in
-    let e = through_refused c.args.list.now c.args.buffer.now _ k c.if-number-ne17.true in
-    record { value = rw e; list_after = rw e }
+pub returns-in_err-check_list-in-Ok-clause-value : goal.returns-in_err-check_list-in-Ok-clause-value
+returns-in_err-check_list-in-Ok-clause-value c =
+    let e = rw (c.requires.0, c.requires.1, c.requires.2) at c.in-Ok.ensures in
+    let given : settled (tag_list c.args.list.now) ≡ Err c.in_err-check_list-in-Ok.field-0.0 = sym c.check_list.ensures ∙ c.in_err-check_list-in-Ok.was in
+    rw (through_done c.args.list.now c.args.buffer.now c.in-Ok.sizes (sym e.sizes), given) (search rules)
 
-pub returns-then-not-is_tag_list : goal.returns-then-not-is_tag_list
-returns-then-not-is_tag_list c =
-    let k = rw (c.requires.0, c.requires.1, c.requires.2, c.if-number-ne17.false) at c.in-Refused.ensures.answer in
-    let e = through_long_unlisted c.args.list.now c.args.buffer.now k (sym c.is_tag_list.ensures ∙ c.if-not-is_tag_list.true) in
-    record { value = rw e; list_after = rw e }
+pub returns-then-ne-clause-value : goal.returns-then-ne-clause-value
+returns-then-ne-clause-value c =
+    let e = rw (c.requires.0, c.requires.1, c.requires.2) at c.in-Err.ensures in
+    let other : c.in-Err.fault ≡ OutputShort → ⊥ = λ s. let z : c.ne.result ≡ false = rw s at c.ne.ensures in cc (c.if-ne.true) in
+    rw (through_refused c.args.list.now c.args.buffer.now c.in-Err.fault (sym e.sizes) other)
 
-pub returns-else-not-is_tag_list : goal.returns-else-not-is_tag_list
-returns-else-not-is_tag_list c =
-    let k = rw (c.requires.0, c.requires.1, c.requires.2, c.if-number-ne17.false) at c.in-Refused.ensures.answer in
-    let e = through_long c.args.list.now c.args.buffer.now k (sym c.is_tag_list.ensures ∙ c.if-not-is_tag_list.false) in
-    record { value = rw e; list_after = rw e }
-
-pub returns-then-not-is_tag_list-2 : goal.returns-then-not-is_tag_list-2
-returns-then-not-is_tag_list-2 c =
-    let k = rw (c.requires.0, c.requires.1, c.requires.2) at c.in-Are.ensures.answer in
-    let e = through_unlisted c.args.list.now c.args.buffer.now _ k (sym c.is_tag_list-in-Are.ensures ∙ c.if-not-is_tag_list-2.true) in
-    record { value = rw e; list_after = rw e }
-
-pub returns-else-not-is_tag_list-2 : goal.returns-else-not-is_tag_list-2
-returns-else-not-is_tag_list-2 c =
-    let k = rw (c.requires.0, c.requires.1, c.requires.2) at c.in-Are.ensures in
-    let e = through_outputs c.args.list.now c.args.buffer.now _ _ _ _ _ _ c.in-Are.n c.in-Are.s c.in-Are.t k
-    (sym c.is_tag_list-in-Are.ensures ∙ c.if-not-is_tag_list-2.false) in
-    record { value = rw e c.put_three.ensures.value; list_after = rw e c.put_three.ensures.list_after }
+pub returns-in_ok-check_list-in-Ok : goal.returns-in_ok-check_list-in-Ok
+returns-in_ok-check_list-in-Ok c =
+    let b = c.args.list.now in
+    let buffer = c.args.buffer.now in
+    let sizes = c.in-Ok.sizes in
+    let e = rw (c.requires.0, c.requires.1, c.requires.2) at c.in-Ok.ensures in
+    let w = written buffer in
+    let given : settled (tag_list b) ≡ Ok tt = sym c.check_list.ensures ∙ c.in_ok-check_list-in-Ok.was in
+    let n : option_copied c.value_in.result ≡ (values w).name = c.value_in.ensures ∙ rw e.name_output (name_written w sizes (sym e.sizes) c.args.name.now) in
+    let s : option_copied c.value_in-in-Ok.result ≡ (values w).subgraph =
+    c.value_in-in-Ok.ensures ∙ rw e.subgraph_output (subgraph_written w sizes (sym e.sizes) c.args.subgraph.now) in
+    let t : option_copied c.value_in-in-Ok-2.result ≡ (values w).translation =
+    c.value_in-in-Ok-2.ensures ∙ rw e.translation_output (translation_written w sizes (sym e.sizes) c.args.translation.now) in
+    let done = through_values b buffer sizes (sym e.sizes) given _ _ _ n s t in
+    record {
+      value = c.put_three.ensures.value ∙ ap settled (sym done);
+      list_after = c.put_three.ensures.list_after ∙ ap (λ g. list_with g b) (sym done);
+    }

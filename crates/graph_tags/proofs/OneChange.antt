@@ -2,10 +2,10 @@
 -- there are.
 use mathlib.Core.Path.{◌≡◌, refl}
 use mathlib.Core.Logic.{◌⊎◌, inl, inr, ◌≢◌}
-use mathlib.Core.Bool.{Bool, true, false, cond}
+use mathlib.Core.Bool.{Bool, true, false, cond, not, ◌&&◌}
 use mathlib.Core.List.{List}
 use Rattle.std.specs.Prelude.{Option, Some, None}
-use Prim.Native.Nat.{◌+◌, ◌≤◌}
+use Prim.Native.Nat.{ℕ, ◌+◌, ◌≤◌}
 use native.Mathlib.Omega.{arith}
 use lib.ListN.{length}
 use borrow.Author.Tests.{leb-true}
@@ -17,9 +17,16 @@ use Rattle.model.specs.TagList.{Tag, compare_tags, look_up, set_tag, set_or_remo
 use Rattle.model.specs.TagStatements.{ValidTags}
 use Rattle.text.proofs.Order.{same_bytes_true}
 use Rattle.tag_edits.proofs.Outcome.{differ}
-use Rattle.graph_tags.specs.Change.{remove_absent, set_present, added, gone}
+use Rattle.graph_tags.specs.Change.{remove_absent, set_present}
 use Rattle.tag_list.proofs.Map.{set_same, set_other, set_kept, remove_same, remove_other, remove_kept}
 use Rattle.tag_list.proofs.Valid.{length_set, length_remove, set_valid, remove_valid}
+
+-- how many tags one change adds, and how many it takes away
+abbrev pub added_by : Bytes → Option Bytes → List Tag → ℕ
+added_by k o ts = cond (is_some o && not (is_some (look_up k ts))) 1 0
+
+abbrev pub gone_by : Bytes → Option Bytes → List Tag → ℕ
+gone_by k o ts = cond (not (is_some o) && is_some (look_up k ts)) 1 0
 
 pub same_or_not : (j k : Bytes) → (j ≡ k) ⊎ (j ≢ k)
 same_or_not j k = go (same_bytes j k) refl
@@ -66,11 +73,11 @@ module _ (k : Bytes) where
   present_other j n (Some v) ts = set_other j k v ts n
 
   pub length_change : (o : Option Bytes) (ts : List Tag) → Ascending compare_tags ts
-      → length (set_or_remove k o ts) + gone k o ts ≡ length ts + added k o ts
+      → length (set_or_remove k o ts) + gone_by k o ts ≡ length ts + added_by k o ts
   length_change None ts a = omega (arith, length_remove k ts a)
   length_change (Some v) ts a = go (is_some (look_up k ts)) (length_set k v ts a)
     where
-      go : (b : Bool) → length (set_tag k v ts) ≡ cond b (length ts) (length ts + 1) → length (set_tag k v ts) + 0 ≡ length ts + cond b 0 1
+      go : (b : Bool) → length (set_tag k v ts) ≡ cond b (length ts) (length ts + 1) → length (set_tag k v ts) + 0 ≡ length ts + cond (not b) 1 0
       go true e = omega arith
       go false e = omega arith
 
@@ -89,10 +96,10 @@ module _ (k : Bytes) where
   present_valid (Some v) ts h stored short few = set_valid k v ts h stored (leb-true (length v) max_value short) few
 
 -- what a key holds decides what is added and taken away
-pub added_same : (k : Bytes) (o : Option Bytes) (ts us : List Tag) → look_up k ts ≡ look_up k us → added k o ts ≡ added k o us
+pub added_same : (k : Bytes) (o : Option Bytes) (ts us : List Tag) → look_up k ts ≡ look_up k us → added_by k o ts ≡ added_by k o us
 added_same k None ts us e = refl
 added_same k (Some v) ts us e = rw e
 
-pub gone_same : (k : Bytes) (o : Option Bytes) (ts us : List Tag) → look_up k ts ≡ look_up k us → gone k o ts ≡ gone k o us
+pub gone_same : (k : Bytes) (o : Option Bytes) (ts us : List Tag) → look_up k ts ≡ look_up k us → gone_by k o ts ≡ gone_by k o us
 gone_same k None ts us e = rw e
 gone_same k (Some v) ts us e = refl
