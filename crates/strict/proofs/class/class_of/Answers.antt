@@ -1,10 +1,11 @@
 -- One test, computed over the whole table, shows all of its entries.
-use Rattle.std.proofs.Common.{◌≡◌, refl, sym, Bool, true, false, ◌&&◌, List, ◌∷◌, ◌++◌, ℕ, ◌/◌, ◌%◌, eqb, get_or, replicate, rules}
-use mathlib.Core.Bool.{beq}
+use Rattle.std.proofs.Common.{◌≡◌, refl, Bool, true, ◌&&◌, List, ◌∷◌, ◌++◌, ℕ, ◌/◌, ◌%◌, eqb, get_or, replicate, rules}
+use Rattle.std.proofs.Math.Bool.{beq}
+use Rattle.std.specs.Cmp.{booleans_Decides}
 use Rattle.model.specs.Strict.{digit, hex_letter, letter, visible, printable}
+use Rattle.std.proofs.lemmas.Bool.{agree_below_at}
 use Rattle.text.proofs.Tests.{both_true}
 use Rattle.strict.specs.Class.{Classes}
-use Rattle.strict.proofs.Table.{at}
 use Rattle.strict.proofs.class.class_of.Goals as goal
 
 -- the test of the entry n at the byte x
@@ -16,11 +17,8 @@ right x n =
     && (beq (eqb (n / 8 % 2) 1) (visible x)
     && beq (eqb (n / 16 % 2) 1) (printable x))))
 
-same : (a b : Bool) → beq a b ≡ true → a ≡ b
-same true true e = refl
-same true false e = sym e
-same false true e = e
-same false false e = refl
+same : {a b : Bool} → beq a b ≡ true → a ≡ b
+same {a} {b} e = (booleans_Decides a b).0 e
 
 classes : (x n : ℕ) → right x n ≡ true → Classes x n
 classes x n e =
@@ -29,11 +27,11 @@ classes x n e =
     let r = both_true _ _ q.1 in
     let s = both_true _ _ r.1 in
     record {
-      digits = same _ _ p.0;
-      hex_letters = same _ _ q.0;
-      letters = same _ _ r.0;
-      visibles = same _ _ s.0;
-      printables = same _ _ s.1;
+      digits = same p.0;
+      hex_letters = same q.0;
+      letters = same r.0;
+      visibles = same s.0;
+      printables = same s.1;
     }
 
 -- the table, by its runs
@@ -46,4 +44,4 @@ table =
 
 pub returns : goal.returns
 unfolding table
-returns c = classes c.args.x (get_or table c.args.x 0) (at right table refl c.args.x (search rules))
+returns c = classes c.args.x (get_or table c.args.x 0) (agree_below_at (λ x. right x (get_or table x 0)) (λ _. true) 256 c.args.x refl (search rules))
