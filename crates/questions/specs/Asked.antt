@@ -1,36 +1,34 @@
 -- The question of either kind: about any two buffers, and between the own names of two records.
-use Rattle.std.specs.Prelude.{◌≡◌, Bool, cond, List, ℕ, ◌+◌, ◌-◌, ◌<◌, length, get_or, Some}
+use Rattle.std.specs.Prelude.{◌≡◌, [], ℕ, ◌<◌, length, get_or, Option, Some, None}
 use Rattle.model.specs.Bytes.{Bytes}
-use Rattle.model.specs.Record.{GraphName}
-use Rattle.model.specs.Layout.{name_count, own_number, name_at, decode}
+use Rattle.model.specs.Record.{GraphName, names}
 use Rattle.model.specs.Path.{Relations, subgraph_relations, all_relations, best_path}
-use Rattle.model.specs.Outcome.{Answer, answered, sized, ask_subgraph, ask_full}
-use Rattle.path_bytes.specs.declared.Reply.{Reply}
-use Rattle.path_bytes.specs.Replies.{Replies}
-use Rattle.union.specs.Steps.{Records}
+use Rattle.model.specs.Outcome.{Answer, answered, sized, name_or, ask_subgraph, ask_full}
+use Rattle.union.specs.declared.steps.Question.{Question}
+use Rattle.union.specs.declared.steps.Question.TheVariants as question
+use Rattle.questions.specs.declared.question.Own.{Own}
 
-abbrev pub ask_of : Bool → Bytes → Bytes → ℕ → Answer
-ask_of full b c room = cond full (ask_full b c room) (ask_subgraph b c room)
+abbrev pub ask_of : Question → Bytes → Bytes → ℕ → Answer
+ask_of question.Full b c room = ask_full b c room
+ask_of question.Subgraph b c room = ask_subgraph b c room
 
 -- the relations that a question goes by
-abbrev pub relations_of : Bool → GraphName → GraphName → Relations
-relations_of full g h = cond full (all_relations g h) (subgraph_relations g h)
+abbrev pub relations_of : Question → GraphName → GraphName → Relations
+relations_of question.Full g h = all_relations g h
+relations_of question.Subgraph g h = subgraph_relations g h
 
--- two records with own names
-pub record Owned (b c : Bytes) : Type 0 where
-  pub records : Records b c
-  pub own : 0 < own_number b
-  pub other : 0 < own_number c
+-- at place p is the own name
+abbrev pub IsOwnAt : GraphName → ℕ → Type 0
+IsOwnAt g p = (p < length (names g)) × (g.name ≡ Some (get_or (names g) p []))
 
--- the nodes of the own names of b and c, in a table of the nodes of b's names by place and behind these of c's
-abbrev pub from_node : Bytes → List ℕ → ℕ
-from_node b numbers = get_or numbers (own_number b - 1) 0
+-- its place, if there is an own name
+abbrev pub IsOwnPlace : GraphName → Option ℕ → Type 0
+IsOwnPlace g None = g.name ≡ None
+IsOwnPlace g (Some p) = IsOwnAt g p
 
-abbrev pub target_node : Bytes → Bytes → List ℕ → ℕ
-target_node b c numbers = get_or numbers (name_count b + (own_number c - 1)) 0
+abbrev pub AreOwn : GraphName → GraphName → Own → Type 0
+AreOwn g h own = IsOwnAt g own.first × IsOwnAt h own.second
 
--- the right reply to a question from the own name of b to that of c
-abbrev pub RepliesOwn : Bool → Bytes → Bytes → Bytes → Reply → Bytes → Type 0
-RepliesOwn full b c out r o =
-    (g h : GraphName) → decode b ≡ Some g → decode c ≡ Some h
-    → Replies (sized (length out) (answered (name_at b (own_number b - 1)) (best_path (relations_of full g h) (name_at b (own_number b - 1)) (name_at c (own_number c - 1))))) out r o
+-- the answer to the question between two graphs that are named
+abbrev pub answer_of : Question → GraphName → GraphName → ℕ → Answer
+answer_of q g h room = sized room (answered (name_or g.name) (best_path (relations_of q g h) (name_or g.name) (name_or h.name)))

@@ -1,7 +1,7 @@
 // The path questions: whether one graph is a subgraph of another, or translates to it, and the best path between them.
 //
-// Both functions take any slices, and equal the definitions `ask_subgraph` and `ask_full` of `model/specs/Outcome.antt`;
-// `path_bytes/specs/Replies.antt` says what each case of a reply means. `proofs/Demand.antt` has demand 3 of those definitions.
+// Both functions take any slices, and equal the definitions `ask_subgraph` and `ask_full` of `model/specs/Outcome.antt`, whose answer is
+// a yes with the path's bytes in the output, a no, or a fault. `proofs/Demand.antt` has demand 3 of those definitions.
 #![tactic(auto)]
 
 mod question;

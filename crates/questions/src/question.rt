@@ -1,157 +1,128 @@
 // The path questions on any two buffers: the tests, and tables of a fitting size.
-ghost use Rattle.std.specs.Prelude.{◌≡◌, ◌≤◌, length};
+ghost use Rattle.std.specs.Prelude.{◌≡◌, ◌+◌, ◌≤◌, ◌<◌, length};
 ghost use Rattle.model.specs.Outcome.{ask_subgraph, ask_full};
 ghost use Rattle.path_bytes.specs.Replies.{Replies};
-ghost use Rattle.union.specs.Steps.{pairs_of_both};
-ghost use Rattle.union.specs.United.{names_of_both};
-ghost use Rattle.questions.specs.Asked.{ask_of, Owned, from_node, target_node, RepliesOwn};
-ghost use Rattle.questions.specs.Room.{small_names, small_pairs, Roomy};
+ghost use Rattle.union.specs.United.{names_of_both, pairs_of_two};
+ghost use Rattle.questions.specs.Asked.{ask_of, IsOwnPlace, AreOwn, answer_of};
+ghost use Rattle.questions.specs.Room.{Roomy};
 
 use crate::tables::{
-    fits, large_numbers, large_pairs, large_spans, small_numbers, small_pairs, small_spans,
+    LARGE_NAMES, LARGE_PAIRS, LARGE_STARTS, SMALL_NAMES, SMALL_PAIRS, SMALL_STARTS, Tables, size_of,
 };
-use path_bytes::{Reply, find_path};
-use record::{fault_of_both, name_count, own_place};
-use union::unite;
+use model::Fault;
+use path_bytes::find_path;
+use record::{Record, own_place};
+use search::{Graph, Search, Span, Step};
+use text::filled;
+use union::{Question, unite};
 
-// The nodes that a question is asked from and about.
+// The places of two records' own names.
 #[derive(Clone, Copy)]
-struct Ends {
-    from: usize,
-    target: usize,
+struct Own {
+    first: usize,
+    second: usize,
 }
 
-// The nodes of the own names of two records, in a table of the nodes of b's names by place and behind these of c's.
-fn own_nodes(b: &[u8], c: &[u8], numbers: &[u16]) -> Ends
-    requires { Owned b.now c.now × (names_of_both b.now c.now ≤ length numbers.now) }
-    ensures { (result.from ≡ from_node b.now numbers.now) × (result.target ≡ target_node b.now c.now numbers.now) }
+// The place of a record's own name, if it has one.
+fn place_of_own<'a>(b: &Record<'a>) -> Option<usize>
+    ensures { IsOwnPlace b.now result }
 {
-    let own = own_place(b) - 1;
-    let other = name_count(b) + (own_place(c) - 1);
-    let from = numbers[own] as usize;
-    let target = numbers[other] as usize;
-    Ends { from, target }
+    own_place(b.bytes())
 }
 
-// The path between the own names of two records, over the pairs of both, in tables that are lent. Both records become nodes, whose names
-// are `spans`, and `steps`; `numbers` has by place in each record the node of the name there. The search has where the steps of each node
-// begin in `starts`, at which place each was found in `places`, and its queue in `rows`, which before is for the rows of each record.
+// The path between the own names of two records, over the pairs of both, in tables that are lent.
 fn ask_in<'a>(
-    b: &'a [u8],
-    c: &'a [u8],
-    full: bool,
-    rows: &mut [u32],
-    spans: &mut [u32],
-    numbers: &mut [u16],
-    steps: &mut [u32],
-    starts: &mut [u16],
-    places: &mut [u16],
+    b: Record<'a>,
+    c: Record<'a>,
+    own: Own,
+    question: Question,
+    tables: Tables<'a>,
     out: &mut [u8],
-) -> Reply
-    requires { Owned b.now c.now × Roomy b.now c.now rows.old spans.old numbers.old steps.old starts.old places.old }
-    ensures { RepliesOwn full b.now c.now out.old result out.new }
+) -> Result<bool, Fault>
+    requires { AreOwn b c own × Roomy b c tables }
+    ensures { Replies (answer_of question b.entry c.entry (length out.old)) out.old result out.new }
 {
-    let u = unite(b, c, full, rows, spans, numbers, steps);
-    let nodes = u.nodes;
-    let count = u.steps;
-    let ends = own_nodes(b, c, numbers);
-    let from = ends.from;
-    let target = ends.target;
-    find_path(
-        b,
-        c,
-        &spans[..nodes],
-        &steps[..count],
-        from,
-        target,
-        &mut starts[..nodes + 1],
-        &mut rows[..nodes],
-        &mut places[..nodes],
-        out,
-    )
+    let Tables {
+        rows,
+        spans,
+        numbers,
+        steps,
+        starts,
+        places,
+    } = tables;
+    let united = unite(&b, &c, question, rows, spans, numbers, steps);
+    let nodes = united.names.spans.len();
+    let from = usize::from(united.first[own.first]);
+    let target = usize::from(united.second[own.second]);
+    let graph = Graph::new(united.steps, &mut starts[..nodes + 1]);
+    let search = Search {
+        queue: &mut rows[..nodes],
+        places: &mut places[..nodes],
+    };
+    find_path(united.names, graph, from, target, search, out)
 }
 
-// The question in tables for few names and pairs, which take less time to clear.
-fn ask_small<'a>(b: &'a [u8], c: &'a [u8], full: bool, out: &mut [u8]) -> Reply
-    requires { Owned b.now c.now × (names_of_both b.now c.now ≤ small_names) × (pairs_of_both b.now c.now ≤ small_pairs) }
-    ensures { RepliesOwn full b.now c.now out.old result out.new }
+// The same in tables of these sizes.
+fn ask_sized<'a, const PAIRS: usize, const NAMES: usize, const STARTS: usize>(
+    b: Record<'a>,
+    c: Record<'a>,
+    own: Own,
+    question: Question,
+    out: &mut [u8],
+) -> Result<bool, Fault>
+    requires own { AreOwn b c own }
+    requires names { names_of_both b c ≤ NAMES }
+    requires pairs { pairs_of_two b c ≤ PAIRS }
+    requires sizes { (NAMES < STARTS) × (NAMES ≤ PAIRS) × (PAIRS < 65536) × (STARTS < 65536) }
+    ensures { Replies (answer_of question b.entry c.entry (length out.old)) out.old result out.new }
 {
-    let mut rows = small_pairs();
-    let mut spans = small_spans();
-    let mut numbers = small_numbers();
-    let mut steps = small_pairs();
-    let mut starts = small_numbers();
-    let mut places = small_numbers();
-    ask_in(
-        b,
-        c,
-        full,
-        &mut rows,
-        &mut spans,
-        &mut numbers,
-        &mut steps,
-        &mut starts,
-        &mut places,
-        out,
-    )
+    let mut rows: [Step; PAIRS] = filled(Step::start(0));
+    let mut spans: [Span; NAMES] = filled(Span { start: 0, size: 0 });
+    let mut numbers: [u16; NAMES] = filled(0);
+    let mut steps: [Step; PAIRS] = filled(Step::start(0));
+    let mut starts: [u16; STARTS] = filled(0);
+    let mut places: [Option<u16>; NAMES] = filled(None);
+    let tables = Tables {
+        rows: &mut rows,
+        spans: &mut spans,
+        numbers: &mut numbers,
+        steps: &mut steps,
+        starts: &mut starts,
+        places: &mut places,
+    };
+    ask_in(b, c, own, question, tables, out)
 }
 
-// The question in tables for any two records.
-fn ask_large<'a>(b: &'a [u8], c: &'a [u8], full: bool, out: &mut [u8]) -> Reply
-    requires { Owned b.now c.now }
-    ensures { RepliesOwn full b.now c.now out.old result out.new }
+// The path from the graph that b describes to the one that c describes, over the pairs of both records that the question goes by.
+fn ask<'a>(b: &'a [u8], c: &'a [u8], question: Question, out: &mut [u8]) -> Result<bool, Fault>
+    ensures { Replies (ask_of question b.now c.now (length out.old)) out.old result out.new }
 {
-    let mut rows = large_pairs();
-    let mut spans = large_spans();
-    let mut numbers = large_numbers();
-    let mut steps = large_pairs();
-    let mut starts = large_numbers();
-    let mut places = large_numbers();
-    ask_in(
-        b,
-        c,
-        full,
-        &mut rows,
-        &mut spans,
-        &mut numbers,
-        &mut steps,
-        &mut starts,
-        &mut places,
-        out,
-    )
-}
-
-// The path from the graph that b describes to the one that c describes, over the pairs of both records: subgraph pairs alone, or all.
-fn ask<'a>(b: &'a [u8], c: &'a [u8], full: bool, out: &mut [u8]) -> Reply
-    ensures { Replies (ask_of full b.now c.now (length out.old)) out.old result out.new }
-{
-    let number = fault_of_both(b, c);
-    if number != 0 {
-        return Reply::Refused(number);
+    let (b, c) = Record::open_both(b, c)?;
+    let Some(first) = place_of_own(&b) else {
+        return Ok(false);
+    };
+    let Some(second) = place_of_own(&c) else {
+        return Ok(false);
+    };
+    let own = Own { first, second };
+    let size = size_of(&b, &c);
+    if size.names <= SMALL_NAMES && size.pairs <= SMALL_PAIRS {
+        return ask_sized::<SMALL_PAIRS, SMALL_NAMES, SMALL_STARTS>(b, c, own, question, out);
     }
-    if own_place(b) == 0 {
-        return Reply::No;
-    }
-    if own_place(c) == 0 {
-        return Reply::No;
-    }
-    if fits(b, c) {
-        return ask_small(b, c, full, out);
-    }
-    ask_large(b, c, full, out)
+    ask_sized::<LARGE_PAIRS, LARGE_NAMES, LARGE_STARTS>(b, c, own, question, out)
 }
 
 // Whether the graph of b is a subgraph of that of c, by subgraph pairs; on a yes the path's bytes go to the front of the output.
-pub fn is_subgraph_of<'a>(b: &'a [u8], c: &'a [u8], out: &mut [u8]) -> Reply
+pub fn is_subgraph_of<'a>(b: &'a [u8], c: &'a [u8], out: &mut [u8]) -> Result<bool, Fault>
     ensures { Replies (ask_subgraph b.now c.now (length out.old)) out.old result out.new }
 {
-    ask(b, c, false, out)
+    ask(b, c, Question::Subgraph, out)
 }
 
 // Whether coordinates of the graph of b translate to that of c, by pairs of both kinds; on a yes the path's bytes go to the front of
 // the output.
-pub fn translates_to<'a>(b: &'a [u8], c: &'a [u8], out: &mut [u8]) -> Reply
+pub fn translates_to<'a>(b: &'a [u8], c: &'a [u8], out: &mut [u8]) -> Result<bool, Fault>
     ensures { Replies (ask_full b.now c.now (length out.old)) out.old result out.new }
 {
-    ask(b, c, true, out)
+    ask(b, c, Question::Full, out)
 }

@@ -1,9 +1,8 @@
 -- What a search promises: the nodes that it took are the first reachable ones in the order of their best paths (fewest steps, then the
 -- first move that differs), each with that path read back by its predecessors.
-use Rattle.std.specs.Prelude.{◌≡◌, ◌⊎◌, List, [], ◌∷◌, ◌++◌, ℕ, zero, suc, ◌+◌, ◌%◌, ◌≤◌, ◌<◌, length, get_or, Option, Some, None}
+use Rattle.std.specs.Prelude.{◌≡◌, ◌⊎◌, List, [], ◌∷◌, ◌++◌, ℕ, zero, suc, ◌+◌, ◌≤◌, ◌<◌, length, get_or, Option, Some, None}
 use Rattle.search.specs.declared.Searched.{Searched}
-use Rattle.search.specs.Steps.{max_nodes, Moves, IsPath, Earlier, Best, Made}
-use Rattle.search.specs.Table.{Rises}
+use Rattle.search.specs.Steps.{Moves, IsPath, Earlier, Best, Made}
 use Rattle.search.specs.Queue.{node_at, prev_at, move_at, Room, Places}
 
 -- the path to a place, by its predecessors; the first argument bounds how far it goes back
@@ -23,15 +22,6 @@ pub record Back (q : List ℕ) (place : ℕ) : Type 0 where
 -- tables to search from a node
 pub record Searchable (steps starts : List ℕ) (from : ℕ) (q : List ℕ) (places : List (Option ℕ)) : Type 0 where
   pub made : Made steps starts (length places)
-  pub room : Room q places
-  pub start : from < length places
-
--- ascending steps between the nodes, with room to index and to search them
-pub record Unindexed (steps starts : List ℕ) (from : ℕ) (q : List ℕ) (places : List (Option ℕ)) : Type 0 where
-  pub rises : Rises steps (length steps)
-  pub few : length steps < 65536
-  pub nodes : (e : ℕ) → e < length steps → get_or steps e 0 % max_nodes < length places
-  pub long : length starts ≡ length places + 1
   pub room : Room q places
   pub start : from < length places
 

@@ -10,6 +10,7 @@ use Rattle.model.specs.Bytes.{Bytes}
 use Rattle.model.specs.Record.{GraphName, names}
 use Rattle.model.specs.Layout.{name_count, shown}
 use Rattle.record.specs.Holds.{HoldsRecord}
+use Rattle.record.proofs.Laws.{decoded}
 use Rattle.record.proofs.Access.{record_count, record_pair_count, record_name}
 use Rattle.search.specs.declared.names.Span.{Span}
 use Rattle.search.specs.Spans.{spanned, no_span, name_by}
@@ -90,6 +91,7 @@ module _ (b c : Bytes) (hb : HoldsRecord b) (hc : HoldsRecord c) (g h : GraphNam
 
           united_shown : IsUnited q (shown b) (shown c) r
           united_shown = record {
+            valid = ((decoded b (shown b) hb.decoded).0, (decoded c (shown c) hc.decoded).0);
             names_count = rw (spans_are, nodes_long) (omega (arith, j.count, record_count b (shown b) hb.decoded, record_count c (shown c) hc.decoded));
             steps_count = rw (steps_are, steps_long) (omega (arith, gathered.count, pairs_are));
             first = rw numbers_are (nodes_of b hb first' numbered.first_room numbered.of_first);

@@ -2,6 +2,7 @@
 use Rattle.std.specs.Prelude.{◌≡◌, List, [], ℕ, ◌+◌, ◌≤◌, ◌<◌, length, get_or}
 use Rattle.model.specs.Bytes.{Bytes}
 use Rattle.model.specs.Record.{GraphName, names}
+use Rattle.model.specs.Statements.{Valid}
 use Rattle.search.specs.declared.names.Span.{Span}
 use Rattle.search.specs.declared.names.Names.{Names}
 use Rattle.search.specs.Spans.{named}
@@ -31,6 +32,7 @@ pub record NodesOf (ns : List Bytes) (numbers : List ℕ) (n : Names) : Type 0 w
 
 -- the nodes stand for the names of both in their order, and the steps for the relations of the question
 pub record IsUnited (q : Question) (g h : GraphName) (r : United) : Type 0 where
+  pub valid : Valid g × Valid h
   pub names_count : length r.names.spans.now ≤ names_of_both g h
   pub steps_count : length r.steps.now ≤ pairs_of_two g h
   pub first : NodesOf (names g) r.first.now r.names

@@ -1,15 +1,17 @@
 -- The records are united, and the path is found between the nodes of their own names.
-use Rattle.questions.proofs.Answering.{parts_fit, askable, replies_own}
+use Rattle.std.proofs.Common.{ap}
+use Rattle.questions.proofs.Answering.{askable, replies}
 use Rattle.questions.proofs.question.ask_in.Goals as goal
 
 pub find_path-requires : goal.find_path-requires
 find_path-requires c =
-    let u = c.unite-u in
-    let fit = parts_fit _ _ _ _ _ _ _ _ _ c.requires.1 _ _ _ _ _ u.ensures u.auto.rows u.auto.spans u.auto.steps in
-    askable _ _ _ _ _ _ _ _ _ _ u.ensures c.requires.0 fit _ _ c.own_nodes-ends.ensures.0 c.own_nodes-ends.ensures.1
+    let u = c.unite-united in
+    let n = c.new-graph.ensures in
+    askable _ _ _ _ c.requires.0 _ u.ensures _ _ c.from-from.ensures c.from-target.ensures _ c.requires.1 _ u.auto.rows _ _ (ap (λ s. s.now) n.0) n.2 n.1
 
 pub returns : goal.returns
 returns c =
-    let u = c.unite-u in
-    let fit = parts_fit _ _ _ _ _ _ _ _ _ c.requires.1 _ _ _ _ _ u.ensures u.auto.rows u.auto.spans u.auto.steps in
-    replies_own _ _ _ _ _ _ _ _ _ _ u.ensures c.requires.0 fit _ _ c.own_nodes-ends.ensures.0 c.own_nodes-ends.ensures.1 c.args.out.now _ _ c.find_path.ensures
+    let u = c.unite-united in
+    let n = c.new-graph.ensures in
+    replies _ _ _ _ c.requires.0 _ u.ensures _ _ c.from-from.ensures c.from-target.ensures _ c.requires.1 _ u.auto.rows _ _ (ap (λ s. s.now) n.0) n.2 n.1
+    c.args.out.now _ _ c.find_path.ensures
