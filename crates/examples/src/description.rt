@@ -1,30 +1,26 @@
 // docs/FORMAT.md, example 15: A is a subgraph of B, and their relationship is described with the texts p and q, self being A.
 use crate::program::written;
 use record::empty_record;
-use test_examples::{Counts, number};
+use test_examples::{Counts, number_of};
 
 // All of example 15.
-pub(crate) fn run(c: Counts) -> Counts {
-    let mut space = empty_record();
-    let a: &mut [u8] = &mut space;
-    let mut other_space = empty_record();
-    let b: &mut [u8] = &mut other_space;
-    let d = number(c, b"15 record of A ", edit::new(b"A", a) as usize, 0);
-    let e = number(d, b"15 record of B ", edit::new(b"B", b) as usize, 0);
-    let f = number(
-        e,
+pub(crate) fn run(counts: &mut Counts) {
+    let mut a = empty_record();
+    let mut b = empty_record();
+    counts.number(b"15 record of A ", number_of(edit::new(b"A", &mut a)), 0);
+    counts.number(b"15 record of B ", number_of(edit::new(b"B", &mut b)), 0);
+    counts.number(
         b"15 A a subgraph of B ",
-        edit::make_subgraph_of(a, b) as usize,
+        number_of(edit::make_subgraph_of(&mut a, &b)),
         0,
     );
-    let mut room = io::buffer();
-    let out: &mut [u8] = &mut room;
-    let w = describe::describe_relationship(a, b, b"p", b"q", out);
+    let mut out = io::buffer();
+    let described = describe::describe_relationship(&a, &b, b"p", b"q", &mut out);
     written(
-        f,
+        counts,
         b"15 description ",
-        w,
-        out,
+        described,
+        &out,
         b"Name 1 is for p\nGraph 1 is a subgraph of graph 2\nName 2 is for q\nWith graph names:\n1\tA\n2\tA\n",
-    )
+    );
 }

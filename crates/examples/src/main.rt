@@ -10,14 +10,15 @@ use test_output::{print, print_number};
 use test_tag_examples::run_tags;
 
 fn main() {
-    let none = Counts {
-        stated: 0,
-        differ: 0,
-    };
-    let d = program::run(description::run(run_sizes(none)));
-    let c = run_lines(run_tags(run_offsets(d)));
-    print_number(c.stated);
+    let mut counts = Counts::default();
+    run_sizes(&mut counts);
+    description::run(&mut counts);
+    program::run(&mut counts);
+    run_offsets(&mut counts);
+    run_tags(&mut counts);
+    run_lines(&mut counts);
+    print_number(counts.stated);
     print(b" as stated, ");
-    print_number(c.differ);
+    print_number(counts.differ);
     print(b" differ\n");
 }

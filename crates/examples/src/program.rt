@@ -1,101 +1,98 @@
 // docs/FORMAT.md, example 16: what the record program finds in three header lines, and a refusal with its message.
-use accessors::GivenCounts;
-use export::Written;
-use parse::Answer;
+ghost use Rattle.std.specs.Prelude.{◌≤◌};
+
+use model::Fault;
 use record::empty_record;
-use test_examples::{Counts, judged, number, shown};
-use test_output::{print, print_number, put, put_text};
+use test_examples::{Counts, number_of};
+use test_output::{print, print_number};
 
 // The text that a writer put to the front of the output, beside the one that is stated.
-pub(crate) fn written(c: Counts, label: &[u8], w: Written, out: &[u8], stated: &[u8]) -> Counts {
-    match w {
-        Written::Refused(n) => number(c, label, n as usize, 0),
-        Written::Wrote(n) => shown(c, label, text::part(out, 0, n), stated),
+pub(crate) fn written(
+    counts: &mut Counts,
+    label: &[u8],
+    size: Result<usize, Fault>,
+    out: &[u8],
+    stated: &[u8],
+) {
+    match size {
+        Ok(size) => counts.shown(label, text::part(out, 0, size), stated),
+        Err(fault) => counts.number(label, number_of(Err(fault)), 0),
     }
 }
 
 // The counts of the example's record.
-fn counts(c: Counts, b: &[u8]) -> Counts {
-    match accessors::counts(b) {
-        GivenCounts::Refused(n) => number(c, b"16 refused ", n as usize, 0),
-        GivenCounts::Are {
-            names,
-            subgraph,
-            translation,
-        } => {
-            let d = number(c, b"16 names ", names, 3);
-            let e = number(d, b"16 subgraph ", subgraph, 1);
-            number(e, b"16 translation ", translation, 1)
+fn record_counts(counts: &mut Counts, record: &[u8]) {
+    match accessors::counts(record) {
+        Ok(held) => {
+            counts.number(b"16 names ", held.names, 3);
+            counts.number(b"16 subgraph ", held.subgraph, 1);
+            counts.number(b"16 translation ", held.translation, 1);
         }
+        Err(fault) => counts.number(b"16 refused ", number_of(Err(fault)), 0),
     }
 }
 
 // The counts and the GAF lines of the example's record.
-fn lines_read(c: Counts) -> Counts {
-    let mut space = empty_record();
-    let b: &mut [u8] = &mut space;
-    let t = b"H\tVN:Z:1.1\tNM:Z:b2\n@SG\tb2\tb1\nH\tTL:Z:b1,a\n";
-    match parse::from_header_lines(t, b) {
-        Answer::Done => (),
-        Answer::Refused(r) => return number(c, b"16 refused ", r.number, 0),
+fn lines_read(counts: &mut Counts) {
+    let mut record = empty_record();
+    let text = b"H\tVN:Z:1.1\tNM:Z:b2\n@SG\tb2\tb1\nH\tTL:Z:b1,a\n";
+    if let Err(refusal) = parse::from_header_lines(text, &mut record) {
+        counts.number(b"16 refused ", number_of(Err(refusal.fault)), 0);
+        return;
     }
-    let d = counts(c, b);
-    let mut room = io::buffer();
-    let out: &mut [u8] = &mut room;
-    let w = export::to_gaf_header_lines(b, out);
+    record_counts(counts, &record);
+    let mut out = io::buffer();
+    let size = export::to_gaf_header_lines(&record, &mut out);
     written(
-        d,
+        counts,
         b"16 lines ",
-        w,
-        out,
+        size,
+        &out,
         b"@RN\tb2\n@SG\tb2\tb1\n@TL\tb1\ta\n",
-    )
+    );
 }
 
 // The refusal with number 6 in line 1, and its message.
-fn refusal(c: Counts) -> Counts {
-    let mut space = empty_record();
-    let b: &mut [u8] = &mut space;
-    let t = b"@RN\t";
-    match parse::from_header_lines(t, b) {
-        Answer::Done => {
-            print(b"16 not refused");
-            judged(c, false)
-        }
-        Answer::Refused(r) => {
-            let d = number(c, b"16 refused ", r.number, 6);
-            let e = number(d, b"16 refused in line ", r.line, 1);
-            let mut room = io::buffer();
-            let out: &mut [u8] = &mut room;
-            let w = export::error_message(r.number, r.line, text::part(t, r.start, r.size), out);
-            written(
-                e,
-                b"16 message ",
-                w,
-                out,
-                b"Invalid GAF name header line: @RN\t",
-            )
-        }
-    }
+fn refusal(counts: &mut Counts) {
+    let mut record = empty_record();
+    let text = b"@RN\t";
+    let Err(refusal) = parse::from_header_lines(text, &mut record) else {
+        print(b"16 not refused");
+        counts.judge(false);
+        return;
+    };
+    let number = number_of(Err(refusal.fault));
+    counts.number(b"16 refused ", number, 6);
+    counts.number(b"16 refused in line ", refusal.line, 1);
+    let part = text::part(text, refusal.start, refusal.size);
+    let mut out = io::buffer();
+    let size = export::error_message(number, refusal.line, part, &mut out);
+    written(
+        counts,
+        b"16 message ",
+        size,
+        &out,
+        b"Invalid GAF name header line: @RN\t",
+    );
 }
 
 // The record program on one line of a kind that is passed over, which is so many bytes long.
-fn program_on(size: usize) {
+fn program_on(size: usize)
+    requires { (4 ≤ size) × (size ≤ 65536) }
+{
     print(b"16 on ");
     print_number(size);
     print(b" bytes:\n");
-    let mut room = io::large_buffer();
-    let out: &mut [u8] = &mut room;
-    let mut n = put_text(out, 0, b"@CO\t");
-    for _ in 4..size {
-        n = put(out, n, b'x');
-    }
-    test_report::program(text::part(out, 0, n));
+    let mut line = io::large_buffer();
+    line[..4].copy_from_slice(b"@CO\t");
+    line[4..size].fill(b'x');
+    test_report::program(&line[..size]);
 }
 
 // All of example 16. What the program prints at its limit and past it is held to the file `stdout`.
-pub(crate) fn run(c: Counts) -> Counts {
+pub(crate) fn run(counts: &mut Counts) {
     program_on(16384);
     program_on(16385);
-    refusal(lines_read(c))
+    lines_read(counts);
+    refusal(counts);
 }

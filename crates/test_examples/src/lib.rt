@@ -9,5 +9,5 @@ mod sizes;
 
 pub use lines::run_lines;
 pub use offsets::run_offsets;
-pub use output::{Counts, judged, number, shown};
+pub use output::{Counts, number_of};
 pub use sizes::run_sizes;

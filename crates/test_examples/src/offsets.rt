@@ -1,6 +1,5 @@
 // docs/FORMAT.md, example 18: where a refusal is, on a line of four hundred fields.
-use crate::output::{Counts, number};
-use parse::Answer;
+use crate::output::Counts;
 use record::empty_record;
 use test_output::{put, put_text};
 
@@ -27,33 +26,31 @@ fn put_long_name(out: &mut [u8], at: usize) -> usize {
 }
 
 // The number, the line and the offset of the refusal of a text, beside those that are stated.
-fn refused_at(c: Counts, t: &[u8], stated: usize, line: usize, offset: usize) -> Counts {
-    let mut space = empty_record();
-    let b: &mut [u8] = &mut space;
-    match parse::from_header_lines(t, b) {
-        Answer::Done => number(c, b"18 refused ", 0, stated),
-        Answer::Refused(r) => {
-            let d = number(c, b"18 refused ", r.number, stated);
-            let e = number(d, b"18 in line ", r.line, line);
-            number(e, b"18 at byte ", r.offset, offset)
+fn refused_at(counts: &mut Counts, text: &[u8], stated: usize, line: usize, offset: usize) {
+    let mut record = empty_record();
+    match parse::from_header_lines(text, &mut record) {
+        Ok(()) => counts.number(b"18 refused ", 0, stated),
+        Err(refusal) => {
+            counts.number(b"18 refused ", u32::from(refusal.fault) as usize, stated);
+            counts.number(b"18 in line ", refusal.line, line);
+            counts.number(b"18 at byte ", refusal.offset, offset);
         }
     }
 }
 
 // The line with a bad field as its last, and with a long name as its last, behind other lines.
-fn both_faults(c: Counts, before: &[u8], line: usize, offset: usize) -> Counts {
-    let mut space = io::large_buffer();
-    let out: &mut [u8] = &mut space;
-    let first = put_text(out, 0, before);
-    let p = put_fields(out, first);
-    let bad = put_text(out, p, b"XX:i");
-    let d = refused_at(c, text::part(out, 0, bad), 3, line, offset);
-    let long = put_long_name(out, p);
-    refused_at(d, text::part(out, 0, long), 11, line, offset)
+fn both_faults(counts: &mut Counts, before: &[u8], line: usize, offset: usize) {
+    let mut out = io::large_buffer();
+    let first = put_text(&mut out, 0, before);
+    let p = put_fields(&mut out, first);
+    let bad = put_text(&mut out, p, b"XX:i");
+    refused_at(counts, text::part(&out, 0, bad), 3, line, offset);
+    let long = put_long_name(&mut out, p);
+    refused_at(counts, text::part(&out, 0, long), 11, line, offset);
 }
 
 // All of example 18.
-pub fn run_offsets(c: Counts) -> Counts {
-    let d = both_faults(c, b"", 1, 2795);
-    both_faults(d, b"@CO\tx\n", 2, 2801)
+pub fn run_offsets(counts: &mut Counts) {
+    both_faults(counts, b"", 1, 2795);
+    both_faults(counts, b"@CO\tx\n", 2, 2801);
 }

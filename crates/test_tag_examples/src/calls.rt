@@ -1,20 +1,20 @@
 // Calls of the functions of tag lists: what comes out is printed beside what is stated.
-use test_examples::{Counts, number, shown};
+use test_examples::Counts;
 use text::{filled, part};
 
 // The bytes of a tag list.
 const LIST_BYTES: usize = 264452;
 
-// A tag list, and the counts of the answers so far.
+// A tag list, and the counts of the answers so far, which are lent.
 #[derive(Drop)]
-pub(crate) struct Trial {
+pub(crate) struct Trial<'a> {
     list: [u8; LIST_BYTES],
-    pub(crate) counts: Counts,
+    counts: &'a mut Counts,
 }
 
-impl Trial {
+impl<'a> Trial<'a> {
     // A list with no tags.
-    pub(crate) fn new(counts: Counts) -> Trial {
+    pub(crate) fn new(counts: &'a mut Counts) -> Trial<'a> {
         Trial {
             list: filled(0),
             counts,
@@ -28,7 +28,7 @@ impl Trial {
 
     // A number beside the one that is stated.
     fn number(&mut self, label: &[u8], n: u64, stated: usize) {
-        self.counts = number(self.counts, label, n as usize, stated);
+        self.counts.number(label, n as usize, stated);
     }
 
     // The number for a key that is set to a value.
@@ -68,7 +68,7 @@ impl Trial {
         match (n, present) {
             (0, 1) => {
                 let value = part(&self.list, start as usize, length as usize);
-                self.counts = shown(self.counts, label, value, stated);
+                self.counts.shown(label, value, stated);
             }
             (0, _) => self.number(b"19 present ", present, 1),
             _ => self.number(b"19 refused ", u64::from(n), 0),

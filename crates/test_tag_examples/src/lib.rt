@@ -8,11 +8,11 @@ mod limits;
 use test_examples::Counts;
 
 // All of example 19.
-pub fn run_tags(counts: Counts) -> Counts {
-    let counts = limits::tags_limit(counts);
-    let counts = limits::key_limit(counts);
-    let counts = limits::value_limit(counts);
-    let counts = limits::capitals(counts);
-    let counts = limits::record_limit(counts);
-    blocks::both_blocks(counts)
+pub fn run_tags(counts: &mut Counts) {
+    limits::tags_limit(counts);
+    limits::key_limit(counts);
+    limits::value_limit(counts);
+    limits::capitals(counts);
+    limits::record_limit(counts);
+    blocks::both_blocks(counts);
 }
