@@ -1,6 +1,5 @@
 -- What was found decides the text: the path's, with the sides as they are or exchanged, or that of no path, the sides exchanged.
 use mathlib.Core.Path.{◌≡◌, refl, sym, ap, ◌∙◌}
-use mathlib.Core.Logic.{◌≢◌}
 use mathlib.Core.Bool.{Bool, true, false, cond, ◌&&◌}
 use mathlib.Core.List.{List}
 use Rattle.std.specs.Prelude.{Option, Some, None, Ok, Err}
@@ -8,18 +7,19 @@ use Prim.Native.Nat.{ℕ}
 use native.Mathlib.Omega.{arith}
 use lib.Dec.{leb}
 use lib.ListN.{length}
+use Rattle.model.specs.declared.fault.Fault.{Fault}
 use Rattle.model.specs.declared.fault.Fault.TheVariants.{LongDesc}
 use Rattle.model.specs.Bytes.{Bytes}
 use Rattle.model.specs.Record.{GraphName}
 use Rattle.model.specs.Layout.{shown, decode}
 use Rattle.model.specs.Questions.{asked_both}
-use Rattle.model.specs.Opening.{Given, fault_of_both}
+use Rattle.model.specs.Opening.{Given, check_of_both}
 use Rattle.model.specs.Path.{Step, full_path}
 use Rattle.model.specs.Describe.{StepFrom, steps_from, after_last_empty, or_no_name, describe_path, describe_none, described, describe_relationship}
 use Rattle.model.specs.Written.{within, with_descs, relationship_written}
 use Rattle.record.proofs.Laws.{decode_held, decode_shown}
 use Rattle.record.proofs.Opening.{refused_both, two_decoded}
-use Rattle.path_bytes.specs.Reading.{start_at, PathIn}
+use Rattle.path_bytes.specs.Reading.{start_at, path_steps, PathIn}
 use Rattle.path_bytes.proofs.ReadBack.{path_in, start_read, path_steps_lem}
 use Rattle.describe.specs.Lines.{no_path_text, OwnNameIn}
 use Rattle.describe.specs.Direction.{NoPath, HasPath, text_written, path_text}
@@ -40,6 +40,18 @@ exchanged t from to room = ap (λ (x : Bool). within room (cond x (Ok t) (Err Lo
     go false true = refl
     go false false = refl
 
+-- with short descs only the room is left to test
+pub short_written : (t from to : Bytes) (room : ℕ) → (leb (length from) 4096 && leb (length to) 4096) ≡ true → text_written t from to room ≡ within room (Ok t)
+short_written t from to room e = rw e
+
+pub long_written : (t from to : Bytes) (room : ℕ) → (leb (length from) 4096 && leb (length to) 4096) ≡ false → text_written t from to room ≡ Err LongDesc
+long_written t from to room e = rw e
+
+-- the text of a path by its first name and the steps that are listed
+pub path_text_of : (p start : Bytes) (ls : List StepFrom) (from to : Bytes) → start ≡ start_at p → ls ≡ after_last_empty (path_steps p)
+    → path_text p from to ≡ describe_path start ls from to
+path_text_of p start ls from to e f = rw (e, f)
+
 -- the text of the path whose bytes are p
 path_described : (b c p from to : Bytes) (w : HasPath b c p) (otherwise : Bytes)
     → described w.g.name from to (Some w.steps) otherwise ≡ path_text p from to
@@ -51,10 +63,9 @@ path_described b c p from to w otherwise =
     ∙ ap (λ (ls : List StepFrom). describe_path (start_at p) (after_last_empty ls) from to) (sym listed)
 
 module _ (b c s o : Bytes) (room : ℕ) where
-  pub written_fault : (n : ℕ) → (n ≡ fault_of_both b c) × (n ≢ 0) → relationship_written b c s o room ≡ Err n
+  pub written_fault : (e : Fault) → check_of_both b c ≡ Err e → relationship_written b c s o room ≡ Err e
   unfolding relationship_written
-  written_fault n q =
-      ap (λ (x : Given Bytes). within room (with_descs s o x)) (sym (refused_both b c (λ g h. describe_relationship g h s o) n q.0 q.1))
+  written_fault e n = ap (λ (x : Given Bytes). within room (with_descs s o x)) (refused_both b c (λ g h. describe_relationship g h s o) e n)
 
   written_of : (g h : GraphName) → decode b ≡ Some g → decode c ≡ Some h → relationship_written b c s o room ≡ text_written (describe_relationship g h s o) s o room
   unfolding relationship_written asked_both

@@ -1,4 +1,3 @@
--- The steps that a description lists, its lines, and its direction.
-pub mod Steps
+-- The lines of a description, and its direction.
 pub mod Lines
 pub mod Direction

@@ -2,10 +2,10 @@
 ghost use Rattle.std.specs.Prelude.{◌<◌};
 ghost use Rattle.model.specs.Describe.{name_is_for, relation_words, graph_line};
 ghost use Rattle.text.specs.Appending.{Appends};
-ghost use Rattle.path_bytes.specs.Reading.{kind_numbered};
 ghost use Rattle.describe.specs.Lines.{relationship_line, shown_name, OwnNameIn};
 
-use record::{has_name, own_name};
+use model::Kind;
+use record::own_name;
 use text::{append, append_decimal};
 
 // Appends the line that says which desc graph n has.
@@ -20,19 +20,19 @@ pub(crate) fn append_description(out: &mut [u8], at: usize, n: usize, desc: &[u8
 }
 
 // Appends the words for a step of this kind.
-fn append_relation(out: &mut [u8], at: usize, kind: usize) -> usize
-    ensures { Appends out.old at (relation_words (kind_numbered kind)) result out.new }
+fn append_relation(out: &mut [u8], at: usize, kind: Kind) -> usize
+    ensures { Appends out.old at (relation_words kind) result out.new }
 {
-    if kind == 0 {
-        return append(out, at, b" is a subgraph of graph ");
+    match kind {
+        Kind::Subgraph => append(out, at, b" is a subgraph of graph "),
+        Kind::Translation => append(out, at, b" translates to graph "),
     }
-    append(out, at, b" translates to graph ")
 }
 
 // Appends the line of the step from graph i to the next.
-pub(crate) fn append_relationship(out: &mut [u8], at: usize, i: usize, kind: usize) -> usize
+pub(crate) fn append_relationship(out: &mut [u8], at: usize, i: usize, kind: Kind) -> usize
     requires { i < 65535 }
-    ensures { Appends out.old at (relationship_line i (kind_numbered kind)) result out.new }
+    ensures { Appends out.old at (relationship_line i kind) result out.new }
 {
     let p = append(out, at, b"Graph ");
     let q = append_decimal(out, p, i);
@@ -56,8 +56,9 @@ pub(crate) fn append_own_graph(out: &mut [u8], at: usize, i: usize, b: &[u8]) ->
     requires { OwnNameIn b.now }
     ensures { Appends out.old at (graph_line i (shown_name b.now)) result out.new }
 {
-    if !has_name(b) {
-        return append_graph(out, at, i, b"(no name)");
-    }
-    append_graph(out, at, i, own_name(b))
+    let name = match own_name(b) {
+        Some(name) => name,
+        None => b"(no name)",
+    };
+    append_graph(out, at, i, name)
 }

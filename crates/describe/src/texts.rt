@@ -1,32 +1,29 @@
 // The two texts: of a path, and of two graphs with no path between them.
 ghost use Rattle.model.specs.Describe.{describe_path};
 ghost use Rattle.text.specs.Appending.{Appends};
-ghost use Rattle.path_bytes.specs.Reading.{steps_at, StepsIn};
+ghost use Rattle.path_bytes.specs.Steps.{steps_of};
 ghost use Rattle.describe.specs.Lines.{no_path_text, OwnNameIn};
 
 use crate::lines::{append_description, append_own_graph};
 use crate::steps::{append_graphs, append_relationships};
+use path_bytes::Steps;
 use text::append;
 
-// Appends the text of a path that lists `count` steps and the last name.
-pub(crate) fn append_path(
+// Appends the text of a path that lists these steps and the last name.
+pub(crate) fn append_path<'a>(
     out: &mut [u8],
-    path: &[u8],
-    entry: usize,
-    body: usize,
-    count: usize,
+    steps: Steps<'a>,
     last: &[u8],
     from: &[u8],
     to: &[u8],
 ) -> usize
-    requires { StepsIn path.now entry body count }
-    ensures { Appends out.old 0 (describe_path last.now (steps_at path.now entry body count) from.now to.now) result out.new }
+    ensures { Appends out.old 0 (describe_path last.now (steps_of steps.entry) from.now to.now) result out.new }
 {
     let p = append_description(out, 0, 1, from);
-    let q = append_relationships(out, p, path, entry, count);
-    let r = append_description(out, q, count + 1, to);
+    let q = append_relationships(out, p, steps);
+    let r = append_description(out, q, steps.len() + 1, to);
     let s = append(out, r, b"With graph names:\n");
-    append_graphs(out, s, path, entry, body, count, last)
+    append_graphs(out, s, steps, last)
 }
 
 // Appends the text of two graphs with no path.

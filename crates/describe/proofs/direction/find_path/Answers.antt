@@ -1,42 +1,47 @@
 -- With room for every path, a reply tells the direction.
-use mathlib.Core.Path.{◌∙◌}
+use mathlib.Core.Path.{ap, ◌∙◌}
+use Rattle.std.proofs.Common.{Ok}
+use Rattle.std.proofs.lemmas.Result.{err_from_is_err_and}
 use Rattle.describe.proofs.Finding.{refused_fault, not_found, path_found, no_fault}
 use Rattle.describe.proofs.direction.find_path.Goals as goal
 
-pub returns-in-Refused : goal.returns-in-Refused
-returns-in-Refused c =
-    let a = c.args in refused_fault a.b.now a.c.now a.path.now _ c.translates_to.new.out c.requires c.translates_to.ensures c.in-Refused.n c.in-Refused.is
-
-pub returns-in-Yes : goal.returns-in-Yes
-returns-in-Yes c =
+pub returns-in_err-translates_to : goal.returns-in_err-translates_to
+returns-in_err-translates_to c =
     let a = c.args in
-    path_found a.b.now a.c.now a.path.now _ c.translates_to.new.out c.requires c.translates_to.ensures c.in-Yes.is (c.translates_to.auto.out ∙ c.requires)
+    let p = err_from_is_err_and c.from_residual.result c.from_residual.ensures.1 in
+    rw (p.1, p.2) (refused_fault a.b.now a.c.now a.path.now _ c.translates_to.new.out c.requires c.translates_to.ensures _ c.in_err-translates_to.was)
 
-pub returns-in-Refused-translates_to : goal.returns-in-Refused-translates_to
-returns-in-Refused-translates_to c =
+pub returns-then-branch : goal.returns-then-branch
+returns-then-branch c =
     let a = c.args in
-    let there = c.translates_to in
-    let back = c.translates_to-in-No in
-    let this = c.in-Refused-translates_to in
-    let None = not_found a.b.now a.c.now a.path.now _ there.new.out c.requires there.ensures c.in-No.is in
-    let fault = refused_fault a.c.now a.b.now there.new.out _ back.new.out (there.auto.out ∙ c.requires) back.ensures this.n this.is in
-    absurd (fault.1 (fault.0 ∙ no_fault a.c.now a.b.now None.h None.g None.second None.first))
+    path_found a.b.now a.c.now a.path.now _ c.translates_to.new.out c.requires c.translates_to.ensures (c.in_ok-translates_to.was ∙ ap Ok c.if-branch.true)
+    (c.translates_to.auto.out ∙ c.requires)
 
-pub returns-in-Yes-translates_to : goal.returns-in-Yes-translates_to
-returns-in-Yes-translates_to c =
+pub returns-in_err-translates_to-2 : goal.returns-in_err-translates_to-2
+returns-in_err-translates_to-2 c =
     let a = c.args in
     let there = c.translates_to in
-    let back = c.translates_to-in-No in
+    let back = c.translates_to-2 in
+    let apart = not_found a.b.now a.c.now a.path.now _ there.new.out c.requires there.ensures (c.in_ok-translates_to.was ∙ ap Ok c.if-branch.false) in
+    let fault = refused_fault a.c.now a.b.now there.new.out _ back.new.out (there.auto.out ∙ c.requires) back.ensures _ c.in_err-translates_to-2.was in
+    absurd (no_fault a.c.now a.b.now apart.h apart.g apart.second apart.first _ fault)
+
+pub returns-then-branch-2 : goal.returns-then-branch-2
+returns-then-branch-2 c =
+    let a = c.args in
+    let there = c.translates_to in
+    let back = c.translates_to-2 in
     let size = there.auto.out ∙ c.requires in (
-      path_found a.c.now a.b.now there.new.out _ back.new.out size back.ensures c.in-Yes-translates_to.is (back.auto.out ∙ size),
-      not_found a.b.now a.c.now a.path.now _ there.new.out c.requires there.ensures c.in-No.is,
+      path_found a.c.now a.b.now there.new.out _ back.new.out size back.ensures (c.in_ok-translates_to-2.was ∙ ap Ok c.if-branch-2.true)
+        (back.auto.out ∙ size),
+      not_found a.b.now a.c.now a.path.now _ there.new.out c.requires there.ensures (c.in_ok-translates_to.was ∙ ap Ok c.if-branch.false),
     )
 
-pub returns-in-No-translates_to : goal.returns-in-No-translates_to
-returns-in-No-translates_to c =
+pub returns : goal.returns
+returns c =
     let a = c.args in
     let there = c.translates_to in
-    let back = c.translates_to-in-No in (
-      not_found a.c.now a.b.now there.new.out _ back.new.out (there.auto.out ∙ c.requires) back.ensures c.in-No-translates_to.is,
-      not_found a.b.now a.c.now a.path.now _ there.new.out c.requires there.ensures c.in-No.is,
+    let back = c.translates_to-2 in (
+      not_found a.c.now a.b.now there.new.out _ back.new.out (there.auto.out ∙ c.requires) back.ensures (c.in_ok-translates_to-2.was ∙ ap Ok c.if-branch-2.false),
+      not_found a.b.now a.c.now a.path.now _ there.new.out c.requires there.ensures (c.in_ok-translates_to.was ∙ ap Ok c.if-branch.false),
     )

@@ -1,26 +1,16 @@
 -- The text that what was found decides.
 use Rattle.std.proofs.Common.{length}
-use Rattle.export.proofs.Answering.{refused_answers}
-use Rattle.describe.proofs.Outcomes.{written_fault, written_forward, written_backward, written_neither, has_path_in, no_path_own_names}
+use Rattle.describe.proofs.Outcomes.{written_forward, written_backward, written_neither, has_path_in, no_path_own_names}
 use Rattle.describe.proofs.relationship.describe_found.Goals as goal
 
 pub describe_path-requires : goal.describe_path-requires
-describe_path-requires c =
-    let found = rw c.in-Forward.is at c.requires in has_path_in c.args.b.now c.args.c.now c.args.path.now found
+describe_path-requires c = has_path_in c.args.b.now c.args.c.now c.args.path.now (rw c.in-Forward.is at c.requires)
 
 pub describe_path-requires-in-Backward : goal.describe_path-requires-in-Backward
-describe_path-requires-in-Backward c =
-    let found = rw c.in-Backward.is at c.requires in has_path_in c.args.c.now c.args.b.now c.args.path.now found.0
+describe_path-requires-in-Backward c = has_path_in c.args.c.now c.args.b.now c.args.path.now (rw c.in-Backward.is at c.requires).0
 
 pub describe_no_path-requires : goal.describe_no_path-requires
-describe_no_path-requires c = let found = rw c.in-Neither.is at c.requires in no_path_own_names c.args.c.now c.args.b.now found.0
-
-pub returns-in-Refused : goal.returns-in-Refused
-returns-in-Refused c =
-    let a = c.args in
-    let found = rw c.in-Refused.is at c.requires in
-    refused_answers _ a.out.now c.in-Refused.n
-    (written_fault a.b.now a.c.now a.self_desc.now a.other_desc.now (length a.out.now) c.in-Refused.n found)
+describe_no_path-requires c = no_path_own_names c.args.c.now c.args.b.now (rw c.in-Neither.is at c.requires).0
 
 pub returns-in-Forward : goal.returns-in-Forward
 returns-in-Forward c =

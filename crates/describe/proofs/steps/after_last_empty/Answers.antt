@@ -1,44 +1,17 @@
-use mathlib.Core.Path.{sym, ap, ◌∙◌}
-use Rattle.std.proofs.Common.{List}
-use Rattle.model.specs.Describe.{StepFrom}
-use Rattle.path_bytes.specs.Reading.{steps_at}
-use Rattle.describe.proofs.Runs.{keeping, keeping_start, turn_empty, turn_full, steps_rest, no_steps}
+use mathlib.Core.Path.{sym, ◌∙◌}
+use Rattle.path_bytes.specs.Steps.{step_of, steps_of}
+use Rattle.describe.proofs.Runs.{keeping_start, keeping_empty, keeping_full, empty_by_length}
 use Rattle.describe.proofs.steps.after_last_empty.Goals as goal
 
-pub loop-left-init : goal.loop-left-init
-loop-left-init c = record { here = c.requires; listed = c.requires; same = keeping_start _ }
+pub loop-step-init : goal.loop-step-init
+loop-step-init c = keeping_start _
 
-pub loop-left-preserved-then-empty : goal.loop-left-preserved-then-empty
-loop-left-preserved-then-empty c =
-    let p = c.args.path.now in
-    let l = c.loop-left in
-    let k = c.name_length-size in
-    let more = c.loop-left-test.true in
-    let rest = steps_rest p l.e l.at l.left more k.result k.ensures.1 l.invariant.here in
-    record {
-      here = rest;
-      listed = rest;
-      same = l.invariant.same ∙ turn_empty p l.e l.at l.left more _ k.result c.part.result.now k.ensures.0 c.part.ensures c.if-empty.true;
-    }
+pub loop-step-preserved-then-is_empty : goal.loop-step-preserved-then-is_empty
+loop-step-preserved-then-is_empty c =
+    c.loop-step.invariant ∙ rw c.in-Some.ensures.steps (keeping_empty (step_of c.in-Some.step) (steps_of c.next.new.self) _ (empty_by_length _ _ c.if-is_empty.ensures))
 
-pub loop-left-preserved : goal.loop-left-preserved
-loop-left-preserved c =
-    let p = c.args.path.now in
-    let l = c.loop-left in
-    let k = c.name_length-size in
-    let more = c.loop-left-test.true in
-    record {
-      here = steps_rest p l.e l.at l.left more k.result k.ensures.1 l.invariant.here;
-      listed = l.invariant.listed;
-      same = l.invariant.same ∙ turn_full p l.e l.at l.left more _ k.result c.part.result.now k.ensures.0 c.part.ensures c.if-empty.false;
-    }
+pub loop-step-preserved : goal.loop-step-preserved
+loop-step-preserved c = c.loop-step.invariant ∙ rw c.in-Some.ensures.steps (keeping_full (step_of c.in-Some.step) (steps_of c.next.new.self) _ (empty_by_length _ _ c.if-is_empty.ensures))
 
 pub returns : goal.returns
-returns c =
-    let p = c.args.path.now in
-    let l = c.loop-left in
-    let None = no_steps p l.e l.at l.left c.loop-left-test.false in
-    record {
-      stands = l.invariant.listed;
-      same = sym (l.invariant.same ∙ ap (λ (ls : List StepFrom). keeping ls (steps_at p l.first l.start l.listed)) None);
-    }
+returns c = rw c.in_default.ensures.steps.0 at (sym c.loop-step.invariant)

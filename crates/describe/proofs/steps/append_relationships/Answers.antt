@@ -1,18 +1,22 @@
-use Rattle.std.proofs.Common.{arith}
+use Rattle.std.proofs.Common.{arith, ap, length}
 use Rattle.text.proofs.Appending.{rest_turn, rest_end}
-use Rattle.describe.proofs.Runs.{relationships_turn, relationships_end, entries_rest}
+use Rattle.describe.proofs.Runs.{few_steps, lines_turn, lines_end}
 use Rattle.describe.proofs.steps.append_relationships.Goals as goal
 
-pub loop-left-preserved : goal.loop-left-preserved
-loop-left-preserved c =
-    let p = c.args.path.now in
-    let l = c.loop-left in
-    let more = c.loop-left-test.true in
+pub append_relationship-q-requires : goal.append_relationship-q-requires
+append_relationship-q-requires c = omega (arith, c.loop-step.invariant.numbers, few_steps c.args.steps.here)
+
+pub overflow_add-i : goal.overflow_add-i
+overflow_add-i c = omega (arith, c.loop-step.invariant.numbers, few_steps c.args.steps.here)
+
+pub loop-step-preserved : goal.loop-step-preserved
+loop-step-preserved c =
+    let l = c.loop-step in
+    let s = c.in-Some.ensures.steps in
     record {
-      here = entries_rest p l.e 0 l.left more l.invariant.here;
-      numbers = omega arith;
-      rest = rest_turn l.invariant.rest (relationships_turn p l.e l.left more l.i c.step_kind.result c.step_kind.ensures.0) c.append_relationship-q.ensures;
+      numbers = omega (arith, l.invariant.numbers, ap length s);
+      rest = rest_turn l.invariant.rest (lines_turn _ s l.i) c.append_relationship-q.ensures;
     }
 
 pub returns : goal.returns
-returns c = let l = c.loop-left in rest_end l.invariant.rest (relationships_end c.args.path.now l.e 0 l.left c.loop-left-test.false l.i)
+returns c = rest_end c.loop-step.invariant.rest (lines_end c.in_default.ensures.steps.0 c.loop-step.i)
