@@ -33,7 +33,7 @@ returns-then-branch-2 c =
     let back = c.translates_to-2 in
     let size = there.auto.out ∙ c.requires in (
       path_found a.c.now a.b.now there.new.out _ back.new.out size back.ensures (c.in_ok-translates_to-2.was ∙ ap Ok c.if-branch-2.true)
-        (back.auto.out ∙ size),
+          (back.auto.out ∙ size),
       not_found a.b.now a.c.now a.path.now _ there.new.out c.requires there.ensures (c.in_ok-translates_to.was ∙ ap Ok c.if-branch.false),
     )
 
