@@ -1,4 +1,4 @@
-// Answers handed out: an enum of a layer below as the number that an exported function returns and the numbers behind its pointers.
+// Answers handed out: what a layer below answers as the numbers behind an exported function's pointers, and the number that it returns.
 //
 // A number behind a `&mut u64` is written on 0 only, but for the four of a reading, which are always written.
 #![tactic(auto)]
@@ -9,8 +9,22 @@ mod records;
 mod tags;
 mod texts;
 
-pub use questions::reply_out;
+ghost use Rattle.std.specs.Prelude.{◌≡◌};
+ghost use Rattle.model.specs.Opening.{number_of};
+
+use model::Fault;
+pub use questions::answer_out;
 pub use readings::refusal_out;
-pub use records::{counts_out, pair_out, part_out, same_out};
-pub use tags::{count_out, removal_out, tag_parts_out};
-pub use texts::{size_out, tags_out};
+pub use records::{counts_out, pair_out, part_out};
+pub use tags::{removal_out, tag_parts_out};
+pub use texts::{count_out, tags_out};
+
+// The number of an answer: 0, or that of its fault.
+pub fn number_of(given: Result<(), Fault>) -> u32
+    ensures { result ≡ number_of given }
+{
+    match given {
+        Ok(()) => 0,
+        Err(fault) => fault.into(),
+    }
+}

@@ -1,23 +1,15 @@
-// The reply to a path question.
+// The answer to a question.
 ghost use Rattle.std.specs.Prelude.{◌≡◌};
-ghost use Rattle.results.specs.Replies.{reply_number, reply_value};
+ghost use Rattle.model.specs.Opening.{value_or, settled};
+ghost use Rattle.model.specs.Values.{one_if};
 
-use path_bytes::Reply;
+use model::Fault;
 
-// Hands out a reply: a refusal's number, or yes or no.
-pub fn reply_out(reply: Reply, answer: &mut u64) -> u32
-    ensures value { result ≡ reply_number reply }
-    ensures answer_after { answer.new ≡ reply_value answer.old reply }
+// Hands out a yes or no: 1 or 0.
+pub fn answer_out(given: Result<bool, Fault>, answer: &mut u64) -> Result<(), Fault>
+    ensures value { result ≡ settled given }
+    ensures answer_after { answer.new ≡ value_or answer.old one_if given }
 {
-    match reply {
-        Reply::Refused(n) => n,
-        Reply::No => {
-            *answer = 0;
-            0
-        }
-        Reply::Yes => {
-            *answer = 1;
-            0
-        }
-    }
+    *answer = given?.into();
+    Ok(())
 }

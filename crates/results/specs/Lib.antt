@@ -1,2 +1,0 @@
--- What the replies are handed out as.
-pub mod Replies
