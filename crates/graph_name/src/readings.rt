@@ -1,5 +1,5 @@
 // Header lines and tags read into a record. A refusal leaves the empty record, but for 15, which writes nothing.
-ghost use Rattle.std.specs.Prelude.{◌≡◌};
+ghost use Rattle.std.specs.Prelude.{◌≡◌, option_copied};
 ghost use Rattle.model.specs.Reading.{from_header_lines, from_tags};
 ghost use Rattle.model.specs.Outcome.{read_into, read_tags_into, refusal_into};
 ghost use Rattle.model.specs.Values.{flagged};
@@ -24,13 +24,15 @@ pub extern "C" fn graph_name_from_header_lines(
     ensures length_after { length.new ≡ (refusal_into (from_header_lines text.now) buffer.old).size }
     ensures offset_after { offset.new ≡ (refusal_into (from_header_lines text.now) buffer.old).offset }
 {
-    refusal_out(
-        parse::from_header_lines(text, buffer),
-        line,
-        start,
-        length,
-        offset,
-    )
+    let read = parse::from_header_lines(text, buffer);
+    refusal_out(read, line, start, length, offset)
+}
+
+// A tag's value, if its flag is not 0.
+fn flagged(flag: u32, value: &[u8]) -> Option<&[u8]>
+    ensures { option_copied result ≡ flagged flag value.now }
+{
+    (flag != 0).then_some(value)
 }
 
 // Reads the values of the three tags, each there if its flag is not 0. Line, start, length and offset are written likewise, places being
@@ -56,19 +58,11 @@ pub extern "C" fn graph_name_from_tags(
     ensures length_after { length.new ≡ (refusal_into (from_tags (flagged has_name name.now) (flagged has_subgraph subgraph.now) (flagged has_translation translation.now)) buffer.old).size }
     ensures offset_after { offset.new ≡ (refusal_into (from_tags (flagged has_name name.now) (flagged has_subgraph subgraph.now) (flagged has_translation translation.now)) buffer.old).offset }
 {
-    refusal_out(
-        parse::from_tags(
-            has_name != 0,
-            name,
-            has_subgraph != 0,
-            subgraph,
-            has_translation != 0,
-            translation,
-            buffer,
-        ),
-        line,
-        start,
-        length,
-        offset,
-    )
+    let read = parse::from_tags(
+        flagged(has_name, name),
+        flagged(has_subgraph, subgraph),
+        flagged(has_translation, translation),
+        buffer,
+    );
+    refusal_out(read, line, start, length, offset)
 }

@@ -6,7 +6,7 @@ ghost use Rattle.model.specs.Opening.{number_of, value_or};
 ghost use Rattle.model.specs.Values.{one_if, is_present, part_start, part_size, from_start_of, from_size_of, to_start_of, to_size_of};
 
 use model::Kind;
-use results::{counts_out, pair_out, part_out, same_out};
+use results::{answer_out, counts_out, number_of, pair_out, part_out};
 
 // How many distinct names and how many pairs of each kind.
 #[unsafe(no_mangle)]
@@ -21,7 +21,7 @@ pub extern "C" fn graph_name_counts(
     ensures subgraph_after { subgraph.new ≡ value_or subgraph.old (λ c. c.subgraph) (counts_in buffer.now) }
     ensures translation_after { translation.new ≡ value_or translation.old (λ c. c.translation) (counts_in buffer.now) }
 {
-    counts_out(accessors::counts(buffer), names, subgraph, translation)
+    number_of(counts_out(accessors::counts(buffer), names, subgraph, translation))
 }
 
 // The own name: whether there is one, and where it stands in the record.
@@ -37,7 +37,7 @@ pub extern "C" fn graph_name_name(
     ensures start_after { start.new ≡ value_or start.old part_start (name_in buffer.now) }
     ensures length_after { length.new ≡ value_or length.old part_size (name_in buffer.now) }
 {
-    part_out(accessors::name(buffer), present, start, length)
+    number_of(part_out(accessors::name(buffer), present, start, length))
 }
 
 // The name at a place, in ascending order from 0, likewise.
@@ -54,12 +54,8 @@ pub extern "C" fn graph_name_name_at(
     ensures start_after { start.new ≡ value_or start.old part_start (name_at_in buffer.now place) }
     ensures length_after { length.new ≡ value_or length.old part_size (name_at_in buffer.now place) }
 {
-    part_out(
-        accessors::name_place(buffer, place as usize),
-        present,
-        start,
-        length,
-    )
+    let part = accessors::name_place(buffer, place as usize);
+    number_of(part_out(part, present, start, length))
 }
 
 // The subgraph pair at a place, in ascending order from 0: whether there is one, and where its two names stand in the record.
@@ -80,14 +76,8 @@ pub extern "C" fn graph_name_subgraph_at(
     ensures to_start_after { to_start.new ≡ value_or to_start.old to_start_of (pair_at_in Subgraph buffer.now place) }
     ensures to_length_after { to_length.new ≡ value_or to_length.old to_size_of (pair_at_in Subgraph buffer.now place) }
 {
-    pair_out(
-        accessors::pair_place(buffer, Kind::Subgraph, place as usize),
-        present,
-        from_start,
-        from_length,
-        to_start,
-        to_length,
-    )
+    let pair = accessors::pair_place(buffer, Kind::Subgraph, place as usize);
+    number_of(pair_out(pair, present, from_start, from_length, to_start, to_length))
 }
 
 // The translation pair at a place, likewise.
@@ -108,14 +98,8 @@ pub extern "C" fn graph_name_translation_at(
     ensures to_start_after { to_start.new ≡ value_or to_start.old to_start_of (pair_at_in Translation buffer.now place) }
     ensures to_length_after { to_length.new ≡ value_or to_length.old to_size_of (pair_at_in Translation buffer.now place) }
 {
-    pair_out(
-        accessors::pair_place(buffer, Kind::Translation, place as usize),
-        present,
-        from_start,
-        from_length,
-        to_start,
-        to_length,
-    )
+    let pair = accessors::pair_place(buffer, Kind::Translation, place as usize);
+    number_of(pair_out(pair, present, from_start, from_length, to_start, to_length))
 }
 
 // Whether both records are named, by the same name.
@@ -124,5 +108,5 @@ pub extern "C" fn graph_name_is_same(buffer: &[u8], other: &[u8], answer: &mut u
     ensures value { result ≡ number_of (is_same_in buffer.now other.now) }
     ensures answer_after { answer.new ≡ value_or answer.old one_if (is_same_in buffer.now other.now) }
 {
-    same_out(accessors::is_same(buffer, other), answer)
+    number_of(answer_out(accessors::is_same(buffer, other), answer))
 }

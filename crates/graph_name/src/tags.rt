@@ -5,7 +5,7 @@ ghost use Rattle.model.specs.Opening.{number_of, value_or};
 ghost use Rattle.model.specs.TagOutcome.{tag_count_in, tag_at_in, get_in, contains_in, insert_in, remove_in, set_graph_name_in, rest_given, list_with, output_with_removed};
 ghost use Rattle.model.specs.Values.{one_if, is_present, length_of, part_start, part_size, key_start_of, key_size_of, value_start_of, value_size_of};
 
-use results::{count_out, part_out, removal_out, same_out, tag_parts_out};
+use results::{answer_out, count_out, number_of, part_out, removal_out, tag_parts_out};
 
 // How many tags a list holds.
 #[unsafe(no_mangle)]
@@ -13,7 +13,7 @@ pub extern "C" fn graph_name_tags_counts(list: &[u8], tags: &mut u64) -> u32
     ensures value { result ≡ number_of (tag_count_in list.now) }
     ensures tags_after { tags.new ≡ value_or tags.old (λ n. n) (tag_count_in list.now) }
 {
-    count_out(tag_list::counts(list), tags)
+    number_of(count_out(tag_list::counts(list), tags))
 }
 
 // The tag at a place, in ascending order of keys from 0: whether there is one, and where its key and its value stand in the list.
@@ -34,14 +34,15 @@ pub extern "C" fn graph_name_tags_at(
     ensures value_start_after { value_start.new ≡ value_or value_start.old value_start_of (tag_at_in list.now place) }
     ensures value_length_after { value_length.new ≡ value_or value_length.old value_size_of (tag_at_in list.now place) }
 {
-    tag_parts_out(
-        tag_list::tag_place(list, place as usize),
+    let tag = tag_list::tag_place(list, place as usize);
+    number_of(tag_parts_out(
+        tag,
         present,
         key_start,
         key_length,
         value_start,
         value_length,
-    )
+    ))
 }
 
 // The value of a key: whether the list holds the key, and where its value stands in the list.
@@ -58,7 +59,7 @@ pub extern "C" fn graph_name_tags_get(
     ensures start_after { start.new ≡ value_or start.old part_start (get_in list.now key.now) }
     ensures length_after { length.new ≡ value_or length.old part_size (get_in list.now key.now) }
 {
-    part_out(tag_list::get(list, key), present, start, length)
+    number_of(part_out(tag_list::get(list, key), present, start, length))
 }
 
 // Whether a list holds a key.
@@ -67,7 +68,7 @@ pub extern "C" fn graph_name_tags_contains_key(list: &[u8], key: &[u8], answer: 
     ensures value { result ≡ number_of (contains_in list.now key.now) }
     ensures answer_after { answer.new ≡ value_or answer.old one_if (contains_in list.now key.now) }
 {
-    same_out(tag_list::contains_key(list, key), answer)
+    number_of(answer_out(tag_list::contains_key(list, key), answer))
 }
 
 // Sets a key to a value.
@@ -76,7 +77,7 @@ pub extern "C" fn graph_name_tags_insert(list: &mut [u8], key: &[u8], value: &[u
     ensures value { result ≡ number_of (insert_in list.old key.now value.now) }
     ensures list_after { list.new ≡ list_with (insert_in list.old key.now value.now) list.old }
 {
-    tag_edits::insert(list, key, value)
+    number_of(tag_edits::insert(list, key, value))
 }
 
 // Removes a key: whether the list held it, and how many bytes of its value were written to the output. Nothing is removed if the value does
@@ -95,7 +96,7 @@ pub extern "C" fn graph_name_tags_remove(
     ensures present_after { present.new ≡ value_or present.old (λ v. is_present v.value) (remove_in list.old key.now (length out.old)) }
     ensures written_after { written.new ≡ value_or written.old (λ v. length_of v.value) (remove_in list.old key.now (length out.old)) }
 {
-    removal_out(tag_edits::remove(list, key, out), present, written)
+    number_of(removal_out(tag_edits::remove(list, key, out), present, written))
 }
 
 // Puts a record's three tags into a list at once, and removes those that the record has not.
@@ -104,5 +105,5 @@ pub extern "C" fn graph_name_tags_set_graph_name(list: &mut [u8], buffer: &[u8])
     ensures value { result ≡ number_of (set_graph_name_in list.old buffer.now) }
     ensures list_after { list.new ≡ list_with (set_graph_name_in list.old buffer.now) list.old }
 {
-    graph_tags::set_graph_name(list, buffer)
+    number_of(graph_tags::set_graph_name(list, buffer))
 }

@@ -4,7 +4,7 @@ ghost use Rattle.model.specs.Opening.{number_of, value_or};
 ghost use Rattle.model.specs.Written.{gfa_written, gaf_written, message_written, relationship_written, output_with, tags_written, output_with_tag};
 ghost use Rattle.model.specs.Values.{is_present, length_of};
 
-use results::{size_out, tags_out};
+use results::{count_out, number_of, tags_out};
 
 // The GFA header lines.
 #[unsafe(no_mangle)]
@@ -17,7 +17,7 @@ pub extern "C" fn graph_name_to_gfa_header_lines(
     ensures out_after { out.new ≡ output_with (gfa_written buffer.now (length out.old)) out.old }
     ensures written_after { written.new ≡ value_or written.old length (gfa_written buffer.now (length out.old)) }
 {
-    size_out(export::to_gfa_header_lines(buffer, out), written)
+    number_of(count_out(export::to_gfa_header_lines(buffer, out), written))
 }
 
 // The GAF header lines.
@@ -31,7 +31,7 @@ pub extern "C" fn graph_name_to_gaf_header_lines(
     ensures out_after { out.new ≡ output_with (gaf_written buffer.now (length out.old)) out.old }
     ensures written_after { written.new ≡ value_or written.old length (gaf_written buffer.now (length out.old)) }
 {
-    size_out(export::to_gaf_header_lines(buffer, out), written)
+    number_of(count_out(export::to_gaf_header_lines(buffer, out), written))
 }
 
 // The error text of a refusal: its number, its line and the part that it quotes.
@@ -47,10 +47,8 @@ pub extern "C" fn graph_name_error_message(
     ensures out_after { out.new ≡ output_with (message_written number line part.now (length out.old)) out.old }
     ensures written_after { written.new ≡ value_or written.old length (message_written number line part.now (length out.old)) }
 {
-    size_out(
-        export::error_message(number as usize, line as usize, part, out),
-        written,
-    )
+    let given = export::error_message(number as usize, line as usize, part, out);
+    number_of(count_out(given, written))
 }
 
 // How the graphs of two records are related, each shown with its desc.
@@ -67,10 +65,8 @@ pub extern "C" fn graph_name_describe_relationship<'a>(
     ensures out_after { out.new ≡ output_with (relationship_written buffer.now other.now self_desc.now other_desc.now (length out.old)) out.old }
     ensures written_after { written.new ≡ value_or written.old length (relationship_written buffer.now other.now self_desc.now other_desc.now (length out.old)) }
 {
-    size_out(
-        describe::describe_relationship(buffer, other, self_desc, other_desc, out),
-        written,
-    )
+    let given = describe::describe_relationship(buffer, other, self_desc, other_desc, out);
+    number_of(count_out(given, written))
 }
 
 // The values of the three tags, each with an output of its own: whether there is one, and how many bytes were written.
@@ -98,13 +94,14 @@ pub extern "C" fn graph_name_set_tags(
     ensures has_translation_after { has_translation.new ≡ value_or has_translation.old (λ v. is_present v.translation) (tags_written buffer.now (length name.old) (length subgraph.old) (length translation.old)) }
     ensures translation_length_after { translation_length.new ≡ value_or translation_length.old (λ v. length_of v.translation) (tags_written buffer.now (length name.old) (length subgraph.old) (length translation.old)) }
 {
-    tags_out(
-        export::set_tags(buffer, name, subgraph, translation),
+    let given = export::set_tags(buffer, name, subgraph, translation);
+    number_of(tags_out(
+        given,
         has_name,
         name_length,
         has_subgraph,
         subgraph_length,
         has_translation,
         translation_length,
-    )
+    ))
 }
