@@ -1,41 +1,15 @@
-// Bytes moved within a block, and cleared. A move begins on the side that it goes to, so that no byte is written over before it is read.
+// Bytes moved within a block, and cleared.
 ghost use Rattle.std.specs.Prelude.{◌≡◌, ◌+◌, ◌≤◌, length, take, drop, replicate};
 ghost use Rattle.model.specs.Bytes.{put};
 
-use std::cmp::Ordering;
-
-// Moves n bytes towards the end of b: the last byte first.
-#[tactic(auto, using(crate::proofs::Moves::up))]
-fn move_up(b: &mut [u8], from: usize, to: usize, n: usize)
-    requires { (from ≤ to) × (to + n ≤ length b.old) }
-    ensures { b.new ≡ put b.old to (take n (drop from b.old)) }
-{
-    for i in (0..n).rev() {
-        b[to + i] = b[from + i];
-    }
-}
-
-// Moves n bytes towards the start of b: the first byte first.
-#[tactic(auto, using(crate::proofs::Moves::down))]
-fn move_down(b: &mut [u8], from: usize, to: usize, n: usize)
-    requires { (to ≤ from) × (from + n ≤ length b.old) }
-    ensures { b.new ≡ put b.old to (take n (drop from b.old)) }
-{
-    for i in 0..n {
-        b[to + i] = b[from + i];
-    }
-}
-
-// Moves n bytes from one place to another, where the two may overlap.
-#[tactic(auto, using(crate::proofs::Moves::put_self))]
+// Moves n bytes from one place to another, where the two may overlap. To the place where they stand none is written.
+#[tactic(auto, using(crate::proofs::Spliced::moves))]
 pub fn move_bytes(b: &mut [u8], from: usize, to: usize, n: usize)
     requires { (from + n ≤ length b.old) × (to + n ≤ length b.old) }
     ensures { b.new ≡ put b.old to (take n (drop from b.old)) }
 {
-    match from.cmp(&to) {
-        Ordering::Less => move_up(b, from, to, n),
-        Ordering::Equal => {}
-        Ordering::Greater => move_down(b, from, to, n),
+    if from != to {
+        b.copy_within(from..from + n, to);
     }
 }
 

@@ -1,4 +1,5 @@
-// Numbers of four bytes, low byte first.
+// Numbers of four bytes, low byte first. `text` has those of two: std reads each width from an array of its own by a function of its own, so
+// that one function over the width would only choose between these two.
 ghost use Rattle.std.specs.Prelude.{◌≡◌, ◌+◌, ◌<◌, length};
 ghost use Rattle.model.specs.Bytes.{put};
 ghost use Rattle.model.specs.Numbers.{number32, le32};

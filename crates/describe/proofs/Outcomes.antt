@@ -3,7 +3,7 @@ use mathlib.Core.Path.{◌≡◌, refl, sym, ap, ◌∙◌}
 use mathlib.Core.Bool.{Bool, true, false, cond, ◌&&◌}
 use mathlib.Core.List.{List}
 use Rattle.std.specs.Prelude.{Option, Some, None, Ok, Err}
-use Prim.Native.Nat.{ℕ}
+use Prim.Native.Nat.{ℕ, ◌≤◌}
 use native.Mathlib.Omega.{arith}
 use lib.Dec.{leb}
 use lib.ListN.{length}
@@ -11,7 +11,7 @@ use Rattle.model.specs.declared.fault.Fault.{Fault}
 use Rattle.model.specs.declared.fault.Fault.TheVariants.{LongDesc}
 use Rattle.model.specs.Bytes.{Bytes}
 use Rattle.model.specs.Record.{GraphName}
-use Rattle.model.specs.Layout.{shown, decode}
+use Rattle.model.specs.Layout.{entry_at, own_number, shown, decode}
 use Rattle.model.specs.Questions.{asked_both}
 use Rattle.model.specs.Opening.{Given, check_of_both}
 use Rattle.model.specs.Path.{Step, full_path}
@@ -21,7 +21,6 @@ use Rattle.record.proofs.Laws.{decode_held, decode_shown}
 use Rattle.record.proofs.Opening.{refused_both, two_decoded}
 use Rattle.path_bytes.specs.Reading.{start_at, path_steps, PathIn}
 use Rattle.path_bytes.proofs.ReadBack.{path_in, start_read, path_steps_lem}
-use Rattle.describe.specs.Lines.{no_path_text, OwnNameIn}
 use Rattle.describe.specs.Direction.{NoPath, HasPath, text_written, path_text}
 
 one_record : (b : Bytes) (g h : GraphName) → decode b ≡ Some g → decode b ≡ Some h → g ≡ h
@@ -93,7 +92,7 @@ module _ (b c s o : Bytes) (room : ℕ) where
       ∙ ap (λ (x : Option (List Step)). described w.g.name o s x neither) w.path ∙ path_described c b p o s w neither)
       ∙ exchanged (path_text p o s) s o room
 
-  pub written_neither : NoPath c b → NoPath b c → relationship_written b c s o room ≡ text_written (no_path_text c b o s) o s room
+  pub written_neither : NoPath c b → NoPath b c → relationship_written b c s o room ≡ text_written (describe_none (shown c).name (shown b).name o s) o s room
   unfolding describe_relationship
   written_neither w v =
       let neither = describe_none w.g.name w.h.name o s in
@@ -103,14 +102,15 @@ module _ (b c s o : Bytes) (room : ℕ) where
       ∙ ap (λ (x : Option (List Step)). described w.g.name o s x neither) w.path
       ∙ ap (λ (n : Option Bytes). describe_none n w.h.name o s) (own_shown c w.g w.first)
       ∙ ap (λ (n : Option Bytes). describe_none (shown c).name n o s) (own_shown b w.h w.second))
-      ∙ exchanged (no_path_text c b o s) s o room
+      ∙ exchanged (describe_none (shown c).name (shown b).name o s) s o room
 
 -- ------------------------------------------------------------------ what the writers ask
 
 pub has_path_in : (b c p : Bytes) → HasPath b c p → PathIn p
 has_path_in b c p w = path_in p w.start w.steps w.rest w.bytes w.size
 
-pub no_path_own_names : (b c : Bytes) → NoPath b c → OwnNameIn b × OwnNameIn c
+-- the own name's entry lies within the buffer
+pub no_path_own_names : (b c : Bytes) → NoPath b c → (entry_at (own_number b) ≤ length b) × (entry_at (own_number c) ≤ length c)
 no_path_own_names b c w =
     let h = decode_held b w.g w.first in
     let k = decode_held c w.h w.second in

@@ -9,7 +9,8 @@ use questions::translates_to;
 // Room for the bytes of every path: at most 1,024 different names, 512 of each record.
 pub(crate) const PATH_ROOM: usize = 49152;
 
-// The direction of a path: from the first graph to the second, from the second to the first, or neither.
+// The direction of a path: from the first graph to the second, from the second to the first, or neither: of three
+// outcomes that are alike none is a lack.
 #[derive(Clone, Copy, Debug, PartialEq, Eq)]
 pub enum Direction {
     Forward,

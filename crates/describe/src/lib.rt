@@ -3,6 +3,7 @@
 // The public function takes any slices and equals the definition `relationship_written` of `model/specs/Written.antt`.
 #![tactic(auto)]
 
+mod descs;
 mod direction;
 mod lines;
 mod relationship;

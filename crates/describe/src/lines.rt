@@ -1,11 +1,11 @@
 // The single lines of a description.
 ghost use Rattle.std.specs.Prelude.{◌<◌};
-ghost use Rattle.model.specs.Describe.{name_is_for, relation_words, graph_line};
+ghost use Rattle.std.specs.Option.{option_copied};
+ghost use Rattle.model.specs.Describe.{name_is_for, relation_words, graph_line, or_no_name};
 ghost use Rattle.text.specs.Appending.{Appends};
-ghost use Rattle.describe.specs.Lines.{relationship_line, shown_name, OwnNameIn};
+ghost use Rattle.describe.specs.Lines.{relationship_line};
 
 use model::Kind;
-use record::own_name;
 use text::{append, append_decimal};
 
 // Appends the line that says which desc graph n has.
@@ -51,14 +51,9 @@ pub(crate) fn append_graph(out: &mut [u8], at: usize, i: usize, name: &[u8]) -> 
     append(out, r, b"\n")
 }
 
-// Appends the line that names graph i by a record's own name, or says that it has none.
-pub(crate) fn append_own_graph(out: &mut [u8], at: usize, i: usize, b: &[u8]) -> usize
-    requires { OwnNameIn b.now }
-    ensures { Appends out.old at (graph_line i (shown_name b.now)) result out.new }
+// Appends the line that names graph i by its own name, or says that it has none.
+pub(crate) fn append_own_graph(out: &mut [u8], at: usize, i: usize, own: Option<&[u8]>) -> usize
+    ensures { Appends out.old at (graph_line i (or_no_name (option_copied own.entry))) result out.new }
 {
-    let name = match own_name(b) {
-        Some(name) => name,
-        None => b"(no name)",
-    };
-    append_graph(out, at, i, name)
+    append_graph(out, at, i, own.unwrap_or(b"(no name)"))
 }

@@ -13,6 +13,7 @@ pub(crate) fn after_last_empty<'a>(steps: Steps<'a>) -> Steps<'a>
 {
     let mut listed = steps;
     let mut rest = steps;
+    // Not a `for`, which would keep what is left of the steps to itself.
     while let Some(step) = rest.next() {
         if step.name.is_empty() {
             listed = rest;
@@ -26,11 +27,8 @@ pub(crate) fn append_relationships<'a>(out: &mut [u8], at: usize, steps: Steps<'
     ensures { Appends out.old at (step_lines 1 (steps_of steps.entry)) result out.new }
 {
     let mut q = at;
-    let mut i = 1;
-    let mut rest = steps;
-    while let Some(step) = rest.next() {
-        q = append_relationship(out, q, i, step.kind);
-        i += 1;
+    for (i, step) in steps.enumerate() {
+        q = append_relationship(out, q, i + 1, step.kind);
     }
     q
 }
@@ -39,12 +37,10 @@ pub(crate) fn append_relationships<'a>(out: &mut [u8], at: usize, steps: Steps<'
 pub(crate) fn append_graphs<'a>(out: &mut [u8], at: usize, steps: Steps<'a>, last: &[u8]) -> usize
     ensures { Appends out.old at (graph_lines 1 (steps_of steps.entry) last.now) result out.new }
 {
+    let count = steps.len();
     let mut q = at;
-    let mut i = 1;
-    let mut rest = steps;
-    while let Some(step) = rest.next() {
-        q = append_graph(out, q, i, step.name);
-        i += 1;
+    for (i, step) in steps.enumerate() {
+        q = append_graph(out, q, i + 1, step.name);
     }
-    append_graph(out, q, i, last)
+    append_graph(out, q, count + 1, last)
 }

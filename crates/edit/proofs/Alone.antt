@@ -1,23 +1,20 @@
 -- A record of a name alone: what it comes to, and the tables that it is stored from.
 use mathlib.Core.Path.{◌≡◌, refl, sym, ap, ◌∙◌}
-use mathlib.Core.Logic.{⊎_elim}
-use mathlib.Core.List.Memᴰ
-use mathlib.Core.List.{[], ◌∷◌, Memᴰ}
-use Prim.Native.Nat.{ℕ, ◌/◌, ◌%◌, ◌≤◌, ◌<◌}
+use mathlib.Core.List.{[], ◌∷◌}
+use Prim.Native.Nat.{ℕ, suc, ◌≤◌, ◌<◌}
 use native.Mathlib.Omega.{arith}
 use lib.ListN.{length, length-append, replicate}
-use lib.Seq.{take_all}
 use borrow.Author.Tests.{lt-ltb, le-ltb}
 use Rattle.model.specs.Bytes.{Bytes}
 use Rattle.model.specs.Record.{insert, insert_all, empty, with_name, names, judge, bodies, max_name_bytes, max_bodies_bytes}
 use Rattle.model.specs.Layout.{record_length, encode}
 use Rattle.model.specs.Outcome.{Outcome, fresh_or, new_record}
-use Rattle.model.specs.Statements.{Ascending}
 use Rattle.record.proofs.Opening.{written_opened, written_refused}
-use Rattle.record.specs.Test.{Under}
 use Rattle.record.specs.Coded.{meaning}
-use Rattle.sorted.specs.Tables.{Tables, tables, body_in, read_out, Kept}
+use Rattle.sorted.specs.Tables.{Tables, fresh, read_out, NamePut}
 use Rattle.tables.specs.Judging.{Storable}
+use Rattle.sorted.proofs.Unused.{fresh_good}
+use Rattle.tables.proofs.Judge.{meaning_own, complete_own}
 
 module _ (name : Bytes) where
   alone : names (with_name name empty) ≡ name ∷ []
@@ -51,40 +48,21 @@ module _ (name : Bytes) where
     unfolding new_record
     new_short e h = rw (written_opened b e) (fresh_short h)
 
--- tables of a short name alone, whose pool is the name
-module _ (name : Bytes) (short : length name ≤ max_name_bytes) where
-  abbrev pub alone_tables : Tables
-  alone_tables = tables (length name ∷ []) [] [] name (record { names = 1; bytes = length name; subgraph = 0; translation = 0 })
+-- tables in which a name alone was put in
+module _ (name : Bytes) (u : Tables) (p : ℕ) (put : NamePut fresh name u p) where
+  pub alone_meaning : meaning (read_out u (suc p)) ≡ with_name name empty
+  alone_meaning = meaning_own fresh u name p put
 
-  body_alone : body_in name (length name) ≡ name
-  body_alone =
-      let q : length name / 65536 ≡ 0 = omega arith in
-      let m : length name % 65536 ≡ length name = omega arith in
-      rw (q, m) (take_all (length name) name (omega arith))
-
-  pub meaning_alone : meaning (read_out alone_tables 1) ≡ with_name name empty
-  meaning_alone = ap (λ (n : Bytes). with_name n empty) body_alone
-
-  pub alone_storable : Storable alone_tables 1
-  unfolding Ascending Under
-  alone_storable =
-      let l = length-append name [] in
-      let kept : Kept alone_tables = record {
-        order = tt;
-        short = rw (body_alone, le-ltb max_name_bytes (length name) short);
-        within = λ r m. ⊎_elim (λ (e : r ≡ length name). rw e (omega arith)) (λ (k : Memᴰ r []). absurd (Memᴰ.not-nil k)) (Memᴰ.cases_cons m);
-        total = rw body_alone (omega arith);
-        count = omega arith;
-        room = omega arith;
-        few = omega arith;
-        small = omega arith;
-        subgraph = record { order = tt; under = tt; within = omega arith };
-        translation = record { order = tt; under = tt; within = omega arith };
-      } in
-      record {
-        complete = record { kept = kept; own_within = omega arith; used = ap names meaning_alone ∙ alone name ∙ ap (λ (n : Bytes). n ∷ []) (sym body_alone) };
-        sizes = record { names = omega arith; bytes = omega arith; subgraph = omega arith; translation = omega arith };
-      }
+  pub alone_storable : length name ≤ max_name_bytes → Storable u (suc p)
+  alone_storable short = record {
+    complete = complete_own fresh u name p put fresh_good;
+    sizes = record {
+      names = omega (arith, put.count);
+      bytes = omega (arith, put.bytes);
+      subgraph = omega (arith, put.subgraph);
+      translation = omega (arith, put.translation);
+    };
+  }
 
 -- the ways through `new`
 pub ruleset news = (new_wrong, new_long, new_cleared, new_short)

@@ -2,9 +2,8 @@
 use mathlib.Core.Path.{◌≡◌, refl, ap, ◌∙◌}
 use mathlib.Core.Logic.{inl, ⊎_elim}
 use Rattle.std.specs.Prelude.{Some}
-use Rattle.model.specs.Layout.{shown}
 use mathlib.Core.List.{List, [], ◌∷◌, Memᴰ}
-use Prim.Native.Nat.{◌≤◌}
+use Prim.Native.Nat.{ℕ, ◌≤◌}
 use native.Mathlib.Omega.{arith}
 use lib.ListN.{length}
 use Rattle.model.specs.declared.Kind.TheVariants.{Subgraph, Translation}
@@ -30,10 +29,7 @@ unfolding insert_all
 with_translations [] g = refl
 with_translations (p ∷ ps) g = with_translations ps _
 
-module _ (t : Tables) (b : Bytes) (start : Kept t) (room : MergeRoom t (shown b) (length (shown b).subgraph) (length (shown b).translation)) where
-  abbrev h : GraphName
-  h = shown b
-
+module _ (n k m : ℕ) (t : Tables) (h : GraphName) (start : Kept t) (room : MergeRoom n k m t h (length h.subgraph) (length h.translation)) where
   module _ (u : Tables) (first : PairsPut Subgraph t h u) where
     -- no names come in that are of neither
     all_inside : (x : Bytes) → Memᴰ x (all_of u h) → Memᴰ x (all_of t h)
@@ -49,18 +45,17 @@ module _ (t : Tables) (b : Bytes) (start : Kept t) (room : MergeRoom t (shown b)
     all_shorter : length (bodies (all_of u h)) ≤ length (bodies (all_of t h))
     all_shorter = shorter (all_of u h) (all_of t h) (all_ascending u h first.kept) all_inside
 
-    pub second_merge : length u.refs ≡ length t.refs → length u.subs ≡ length t.subs → length u.trans ≡ length t.trans
-        → length u.pool ≡ length t.pool → MergeRoom u h 0 (length h.translation)
-    second_merge a b c d = record {
+    pub second_merge : MergeRoom n k m u h 0 (length h.translation)
+    second_merge = record {
       count = omega (arith, all_fewer, room.count);
       room = omega (arith, all_shorter, room.room);
       subgraph = omega (arith, first.subgraph, room.subgraph);
       translation = omega (arith, first.translation, room.translation);
     }
 
-    pub merged_both : (w : Tables) → PairsPut Translation u h w → Merged (Some b) t w
+    pub merged_both : (w : Tables) → PairsPut Translation u h w → Merged (Some h) t w
     merged_both w second =
-        let n = length_names w.pool w.sizes.names w.refs second.kept.count in
+        let names_long = length_names w.pool w.sizes.names w.refs second.kept.count in
         let few = fewer (table_names w) (all_of u h) second.kept.order second.within in
         let short = shorter (table_names w) (all_of u h) second.kept.order second.within in
         record {
@@ -70,7 +65,7 @@ module _ (t : Tables) (b : Bytes) (start : Kept t) (room : MergeRoom t (shown b)
               second.graph
               ∙ ap (with_pairs Translation h.translation) (first.graph ∙ with_subgraphs h.subgraph (graph_in t))
               ∙ with_translations h.translation _;
-          count = omega (arith, few, all_fewer, n, all_count t h start);
+          count = omega (arith, few, all_fewer, names_long, all_count t h start);
           bytes = omega (arith, short, all_shorter, second.kept.total, all_bytes t h start);
           subgraph = omega (arith, first.subgraph, second.subgraph);
           translation = omega (arith, first.translation, second.translation);

@@ -13,7 +13,7 @@ use Rattle.model.specs.Layout.{shown, decode}
 use Rattle.model.specs.Outcome.{Outcome, kept_or, related, relate, add_relationships}
 use Rattle.model.specs.Opening.{is_some, check_of_both}
 use Rattle.tables.specs.Judging.{outcome}
-use Rattle.tables.proofs.Records.{held_long, held_count, held_own, own_short}
+use Rattle.sorted.proofs.Records.{held_long, held_count, held_own, own_short}
 use Rattle.edit.proofs.Openings.{both_refused, both_done}
 
 module _ (kind : Kind) (b c : Bytes) where

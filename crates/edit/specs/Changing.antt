@@ -1,5 +1,5 @@
 -- A change of a record: the pairs of another, if it is merged, and one pair more, if there is one. The room that it takes.
-use Rattle.std.specs.Prelude.{◌≡◌, true, List, ℕ, ◌+◌, ◌*◌, ◌≤◌, ◌<◌, length, Option, Some, None}
+use Rattle.std.specs.Prelude.{◌≡◌, true, ℕ, ◌+◌, ◌*◌, ◌≤◌, ◌<◌, length, Option, Some, None}
 use Rattle.model.specs.Bytes.{Bytes}
 use Rattle.model.specs.Record.{GraphName, with_pair, max_name_bytes}
 use Rattle.model.specs.Layout.{shown, decode}
@@ -8,8 +8,7 @@ use Rattle.model.specs.Outcome.{Outcome, kept_or}
 use Rattle.std.specs.Option.{IfSome}
 use Rattle.sorted.specs.declared.putting.Sizes.{Sizes}
 use Rattle.sorted.specs.Tables.{Tables, graph_in}
-use Rattle.tables.specs.Judging.{Good}
-use Rattle.tables.specs.Loading.{TableRoom}
+use Rattle.sorted.specs.Loading.{Good}
 use Rattle.edit.specs.declared.changing.Relation.{Relation}
 use Rattle.edit.specs.Merging.{merged}
 
@@ -19,7 +18,7 @@ paired None g = g
 paired (Some p) g = with_pair p.kind (record { from = p.from.now; to = p.to.now }) g
 
 -- what a change gives: a number, and the buffer then
-abbrev pub change_of : Bytes → Option Bytes → Option Relation → Outcome
+abbrev pub change_of : Bytes → Option GraphName → Option Relation → Outcome
 change_of b other pair = kept_or b (paired pair (merged other (shown b)))
 
 -- both names of a relation are short
@@ -27,30 +26,21 @@ pub record ShortNames (p : Relation) : Type 0 where
   pub from : length p.from.now ≤ max_name_bytes
   pub to : length p.to.now ≤ max_name_bytes
 
--- what is known of the arguments: a record, another if it is merged, and two short names if a pair is put in
-pub record Changeable (b : Bytes) (other : Option Bytes) (pair : Option Relation) : Type 0 where
+-- what is known of the arguments: a record, and two short names if a pair is put in
+pub record Changeable (b : Bytes) (pair : Option Relation) : Type 0 where
   pub own : is_some (decode b) ≡ true
-  pub others : IfSome other (λ c. is_some (decode c) ≡ true)
   pub short : IfSome pair ShortNames
 
--- there is room for both, and for a pair more with its two names
-abbrev pub ChangeRoom : Sizes → Sizes → List ℕ → List ℕ → List ℕ → Bytes → Type 0
-ChangeRoom s t = TableRoom (record {
-  names = s.names + t.names + 2;
-  bytes = s.bytes + t.bytes + 2 * max_name_bytes;
-  subgraph = s.subgraph + t.subgraph + 1;
-  translation = s.translation + t.translation + 1;
-})
-
--- so there is in tables for n names, k pairs of either kind and m bytes
-pub record Roomy (s t : Sizes) (n k m : ℕ) : Type 0 where
-  pub names : s.names + t.names + 2 ≤ n
-  pub subgraph : s.subgraph + t.subgraph + 1 ≤ k
-  pub translation : s.translation + t.translation + 1 ≤ k
-  pub bytes : s.bytes + t.bytes + 2 * max_name_bytes ≤ m
-  pub few : n < 65536
-  pub fewer : k < 65536
-  pub small : m < 65536
+-- tables for so many names, pairs of each kind and bytes have room for two graph names of these sizes, and for a pair more with its two
+-- names
+pub record ChangeRoom (s t : Sizes) (names pairs bytes : ℕ) : Type 0 where
+  pub count : s.names + t.names + 2 ≤ names
+  pub room : s.bytes + t.bytes + 2 * max_name_bytes ≤ bytes
+  pub subgraph : s.subgraph + t.subgraph + 1 ≤ pairs
+  pub translation : s.translation + t.translation + 1 ≤ pairs
+  pub few : names < 65536
+  pub fewer : pairs < 65536
+  pub small : bytes < 65536
 
 -- two graph names of these sizes fit the small tables together
 pub record FitSmall (s t : Sizes) : Type 0 where

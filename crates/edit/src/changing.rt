@@ -2,22 +2,20 @@
 // both records are.
 ghost use Rattle.std.specs.Prelude.{◌≡◌, true, IfSome};
 ghost use Rattle.std.specs.Option.{option_copied};
-ghost use Rattle.model.specs.Layout.{shown, decode};
-ghost use Rattle.model.specs.Opening.{is_some};
-ghost use Rattle.sorted.specs.Tables.{tables, Kept, PairRoom};
-ghost use Rattle.tables.specs.Loading.{sizes_of};
-ghost use Rattle.tables.specs.Judging.{outcome, Limited};
+ghost use Rattle.model.specs.Layout.{shown};
+ghost use Rattle.sorted.specs.Tables.{PairRoom};
+ghost use Rattle.sorted.specs.Loading.{sizes_of, Limited};
+ghost use Rattle.tables.specs.Judging.{outcome};
 ghost use Rattle.edit.specs.Merging.{merged_sizes};
-ghost use Rattle.edit.specs.Changing.{change_of, Changeable, ChangeRoom, Roomy, FitSmall, Paired};
+ghost use Rattle.edit.specs.Changing.{change_of, Changeable, ChangeRoom, FitSmall, Paired};
 
 use crate::merging::merge;
 use model::{Fault, Kind};
-use record::{MAX_BODIES_BYTES, MAX_NAME_BYTES, MAX_NAMES, MAX_PAIRS};
-use sorted::{Sizes, put_pair};
-use tables::{keep_named, load, sizes_of};
-use text::filled;
+use record::{MAX_BODIES_BYTES, MAX_NAME_BYTES, MAX_NAMES, MAX_PAIRS, Record};
+use sorted::{Sizes, Tables};
+use tables::keep_named;
 
-// The tables of a change stand in arrays: large ones for any two records, and small ones, which are cleared sooner. All have room for a
+// A change is made in tables of two sizes: large ones for any two records, and small ones, which are cleared sooner. All have room for a
 // pair more, with its two names.
 const LARGE_NAMES: usize = 2 * MAX_NAMES + 2;
 
@@ -40,75 +38,43 @@ pub(crate) struct Relation<'a> {
 }
 
 // Puts in a pair, if there is one.
-fn put_if(
+#[tactic(auto, using(crate::proofs::Changes::paired_put))]
+fn put_if<const NAMES: usize, const PAIRS: usize, const BYTES: usize>(
     pair: Option<Relation>,
-    refs: &mut [u32],
-    subs: &mut [u32],
-    trans: &mut [u32],
-    pool: &mut [u8],
-    sizes: Sizes,
-) -> Sizes
-    requires kept { Kept (tables refs.old subs.old trans.old pool.old sizes) }
-    requires room { IfSome pair (λ p. PairRoom (tables refs.old subs.old trans.old pool.old sizes) p.from.now p.to.now) }
-    ensures { Paired pair.entry (tables refs.old subs.old trans.old pool.old sizes) (tables refs.new subs.new trans.new pool.new result) }
+    tables: &mut Tables<NAMES, PAIRS, BYTES>,
+)
+    requires { IfSome pair (λ p. PairRoom NAMES PAIRS BYTES tables.old p.from.now p.to.now) }
+    ensures { Paired pair.entry tables.old tables.new }
 {
-    match pair {
-        None => sizes,
-        Some(p) => put_pair(p.kind, refs, subs, trans, pool, sizes, p.from, p.to),
+    if let Some(p) = pair {
+        tables.put_pair(p.kind, p.from, p.to);
     }
 }
 
-// The change, over tables that are lent.
-fn change_in(
-    refs: &mut [u32],
-    subs: &mut [u32],
-    trans: &mut [u32],
-    pool: &mut [u8],
-    buffer: &mut [u8],
-    other: Option<&[u8]>,
-    pair: Option<Relation>,
-) -> Result<(), Fault>
-    requires { Changeable buffer.old (option_copied other) pair × ChangeRoom (sizes_of (shown buffer.old)) (merged_sizes (option_copied other)) refs.old subs.old trans.old pool.old }
-    ensures { outcome result buffer.new ≡ change_of buffer.old (option_copied other.entry) pair.entry }
-{
-    let own = load(refs, subs, trans, pool, buffer);
-    let both = merge(other, refs, subs, trans, pool, own);
-    let all = put_if(pair, refs, subs, trans, pool, both);
-    keep_named(buffer, refs, subs, trans, pool, all)
-}
-
-// The change, over tables of these sizes.
+// The change, in tables for so many names, pairs of each kind and bytes.
 fn change_sized<const NAMES: usize, const PAIRS: usize, const BYTES: usize>(
     buffer: &mut [u8],
-    other: Option<&[u8]>,
+    other: Option<&Record>,
     pair: Option<Relation>,
 ) -> Result<(), Fault>
-    requires { Changeable buffer.old (option_copied other) pair × Roomy (sizes_of (shown buffer.old)) (merged_sizes (option_copied other)) NAMES PAIRS BYTES }
+    requires { Changeable buffer.old pair × ChangeRoom (sizes_of (shown buffer.old)) (merged_sizes (option_copied other)) NAMES PAIRS BYTES }
     ensures { outcome result buffer.new ≡ change_of buffer.old (option_copied other.entry) pair.entry }
 {
-    let mut names: [u32; NAMES] = filled(0);
-    let mut subgraph: [u32; PAIRS] = filled(0);
-    let mut translation: [u32; PAIRS] = filled(0);
-    let mut bodies: [u8; BYTES] = filled(0);
-    change_in(
-        &mut names,
-        &mut subgraph,
-        &mut translation,
-        &mut bodies,
-        buffer,
-        other,
-        pair,
-    )
+    let mut tables = Tables::<NAMES, PAIRS, BYTES>::new();
+    tables.load(&Record::of(buffer));
+    merge(other, &mut tables);
+    put_if(pair, &mut tables);
+    keep_named(buffer, &tables)
 }
 
 // How much of the tables another record takes, if it is merged.
-fn merged_sizes(other: Option<&[u8]>) -> Sizes
-    requires { IfSome other (λ b. is_some (decode b.now) ≡ true) }
-    ensures { result ≡ merged_sizes (option_copied other.entry) }
+fn merged_sizes(other: Option<&Record>) -> Sizes
+    ensures sizes { result ≡ merged_sizes (option_copied other.entry) }
+    ensures limited { Limited result }
 {
     match other {
         None => Sizes::default(),
-        Some(b) => sizes_of(b),
+        Some(record) => Sizes::of(record),
     }
 }
 
@@ -126,13 +92,13 @@ fn fit_small(s: Sizes, t: Sizes) -> bool
 // Adds to a record all pairs of another, if it is merged, and a pair of short names, if there is one. A refusal leaves the buffer.
 pub(crate) fn change(
     buffer: &mut [u8],
-    other: Option<&[u8]>,
+    other: Option<&Record>,
     pair: Option<Relation>,
 ) -> Result<(), Fault>
-    requires { Changeable buffer.old (option_copied other) pair }
+    requires { Changeable buffer.old pair }
     ensures { outcome result buffer.new ≡ change_of buffer.old (option_copied other.entry) pair.entry }
 {
-    if fit_small(sizes_of(buffer), merged_sizes(other)) {
+    if fit_small(Sizes::of(&Record::of(buffer)), merged_sizes(other)) {
         return change_sized::<SMALL_NAMES, SMALL_PAIRS, SMALL_BYTES>(buffer, other, pair);
     }
     change_sized::<LARGE_NAMES, LARGE_PAIRS, LARGE_BYTES>(buffer, other, pair)

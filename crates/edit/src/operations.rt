@@ -1,4 +1,5 @@
-// The operations that make and change records. A refusal leaves the buffer, save that `new` of a long name leaves the empty record.
+// The operations that make and change records. A refusal leaves the buffer, save that `new` of a long name leaves the empty record. They have the
+// Rust's names, a line each where there is one for either kind.
 ghost use Rattle.std.specs.Prelude.{◌≡◌, ◌≤◌, length};
 ghost use Rattle.model.specs.Opening.{number_of};
 ghost use Rattle.model.specs.Record.{empty, with_name, max_name_bytes};
@@ -8,8 +9,8 @@ ghost use Rattle.tables.specs.Judging.{outcome};
 
 use crate::changing::{Relation, change};
 use model::{Fault, Kind};
-use record::{MAX_NAME_BYTES, RECORD_LENGTH, check, check_both, own_name};
-use sorted::Sizes;
+use record::{MAX_NAME_BYTES, RECORD_LENGTH, Record, check, check_both, own_name};
+use sorted::Tables;
 use tables::store;
 use text::filled;
 
@@ -53,7 +54,7 @@ pub fn add_relationships(buffer: &mut [u8], other: &[u8]) -> Result<(), Fault>
     ensures buffer_after { buffer.new ≡ (add_relationships buffer.old other.now).buffer }
 {
     check_both(buffer, other)?;
-    change(buffer, Some(other), None)
+    change(buffer, Some(&Record::of(other)), None)
 }
 
 // Makes the graph a child of the parent by a relation of a kind, with all pairs of the parent; does nothing if either is unnamed.
@@ -71,7 +72,8 @@ fn relate_to(kind: Kind, buffer: &mut [u8], parent: &[u8]) -> Result<(), Fault>
     let mut name: [u8; MAX_NAME_BYTES] = filled(0);
     let from = &mut name[..own.len()];
     from.copy_from_slice(own);
-    change(buffer, Some(parent), Some(Relation { kind, from, to }))
+    let parent = Record::of(parent);
+    change(buffer, Some(&parent), Some(Relation { kind, from, to }))
 }
 
 // Makes the graph a subgraph of the parent, with all pairs of the parent.
@@ -92,18 +94,14 @@ pub fn add_translation_to(buffer: &mut [u8], parent: &[u8]) -> Result<(), Fault>
     relate_to(Kind::Translation, buffer, parent)
 }
 
-// Writes the record of a short name alone, from tables of that name alone: it is their pool.
+// Writes the record of a short name alone, from tables for one name.
 fn write_name(name: &[u8], buffer: &mut [u8])
     requires { (length name.now ≤ max_name_bytes) × (length buffer.old ≡ record_length) }
     ensures { buffer.new ≡ encode (with_name name.now empty) }
 {
-    let refs = [name.len() as u32];
-    let sizes = Sizes {
-        names: 1,
-        bytes: name.len(),
-        ..Sizes::default()
-    };
-    store(&refs, &[], &[], name, sizes, Some(0), buffer);
+    let mut tables = Tables::<1, 0, MAX_NAME_BYTES>::new();
+    let own = tables.put_name(0, name);
+    store(&tables, Some(own), buffer);
 }
 
 // Writes the record of a name alone into a buffer, whatever it held; of a long name the empty record.

@@ -1,36 +1,23 @@
 -- A part of a graph name is within the sizes where the whole is: its names are among the whole's.
 use mathlib.Core.Path.{◌≡◌, refl, ap}
-use mathlib.Core.Logic.{◌⊎◌, inl, inr, ⊎_elim, ◌↔◌}
-use mathlib.Core.Bool.{false}
+use mathlib.Core.Logic.{◌⊎◌, inl, inr, ⊎_elim}
 use mathlib.Core.List.Memᴰ
 use mathlib.Core.List.{List, [], ◌∷◌, ◌++◌, Memᴰ}
 use Rattle.std.specs.Prelude.{Option, Some}
 use Prim.Native.Nat.{ℕ, ◌≤◌}
 use native.Mathlib.Omega.{arith}
 use lib.ListN.{length, length-append}
-use lib.Dec.{ltb}
-use borrow.Author.Tests.{ltb-false, le-ltb}
 use Rattle.model.specs.declared.Kind.{Kind}
 use Rattle.model.specs.Questions.{pairs_of}
 use Rattle.model.specs.Bytes.{Bytes}
-use Rattle.model.specs.Record.{Pair, GraphName, names, any_long, judge, own_name, pair_names, max_name_bytes}
-use Rattle.text.proofs.Tests.{either_false}
+use Rattle.model.specs.Record.{Pair, GraphName, names, judge, own_name, pair_names}
 use Rattle.record.proofs.Names.{all_names, names_ascending, names_members, own_listed, pair_listed}
-use Rattle.record.proofs.Sizes.{Sizes, judge_sizes, sizes_judge}
+use Rattle.record.proofs.Sizes.{Sizes, judge_sizes, sizes_judge, short_names}
 use Rattle.text.proofs.Order.{bytes_order}
 use Rattle.text.proofs.Total.{total, total_count, total_bodies, ascending_once, total_part}
 
 abbrev pub Among : {A : Type 0} → List A → List A → Type 0
 Among {A} xs ys = (z : A) → Memᴰ z xs → Memᴰ z ys
-
-short_names : (ns : List Bytes) → any_long ns ≡ false ↔ ((n : Bytes) → Memᴰ n ns → length n ≤ max_name_bytes)
-short_names [] = (λ e n m. absurd (Memᴰ.not-nil m), λ h. refl)
-short_names (x ∷ xs) = (
-  λ e n m.
-      let p : (ltb max_name_bytes (length x) ≡ false) × (any_long xs ≡ false) = either_false _ _ e in
-      ⊎_elim (λ (d : n ≡ x). omega (arith, ltb-false max_name_bytes (length x) p.0, ap length d)) ((short_names xs).0 p.1 n) (Memᴰ.cases_cons m),
-  λ h. rw (le-ltb max_name_bytes (length x) (h x (Memᴰ.head refl)), (short_names xs).1 (λ n m. h n (Memᴰ.tail m))),
-)
 
 -- fewer names and fewer pairs are within the sizes as well
 pub judge_fewer : (g h : GraphName) → Among (all_names h) (all_names g) → length h.subgraph ≤ length g.subgraph

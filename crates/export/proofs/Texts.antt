@@ -2,7 +2,7 @@
 use mathlib.Core.Path.{◌≡◌, refl, sym, ap, ◌∙◌}
 use mathlib.Core.List.{List, [], ◌∷◌, ◌++◌, append_assoc, append-nil}
 use mathlib.Core.Logic.{◌≢◌}
-use lib.ListN.{length, take, drop}
+use lib.ListN.{length}
 use Rattle.std.specs.Prelude.{Some, None}
 use Prim.Native.Nat.{ℕ}
 use native.Mathlib.Omega.{arith}
@@ -32,10 +32,13 @@ relations_run [] = refl
 relations_run (p ∷ ps) = rw (relations_run ps) (ap (λ (t : Bytes). t ++ pair_texts (59 ∷ []) 44 [] ps) (comma_name (59 ∷ p.from) p.to))
 
 -- the first pair alone, and the further ones
-pub relations_text : (ps : List Pair) → value_text (relations_tag ps) ≡ pair_texts [] 44 [] (take 1 ps) ++ pair_texts (59 ∷ []) 44 [] (drop 1 ps)
+pub relations_text : {ps rest : List Pair} {p : Pair} → ps ≡ p ∷ rest → value_text (relations_tag ps) ≡ pair_text [] 44 [] p.from p.to ++ pair_texts (59 ∷ []) 44 [] rest
 unfolding relations_tag pair_texts
-relations_text [] = refl
-relations_text (p ∷ ps) = rw (append-nil (pair_text [] 44 [] p.from p.to), relations_run ps) (ap (λ (t : Bytes). t ++ pair_texts (59 ∷ []) 44 [] ps) (comma_name p.from p.to))
+relations_text {ps} {rest} {p} e = rw (e, relations_run rest) (ap (λ (t : Bytes). t ++ pair_texts (59 ∷ []) 44 [] rest) (comma_name p.from p.to))
+
+pub relations_empty : {ps : List Pair} → ps ≡ [] → value_text (relations_tag ps) ≡ []
+unfolding relations_tag
+relations_empty e = rw e
 
 -- whether there is a value
 pub relations_none : (ps : List Pair) → length ps ≡ 0 → relations_tag ps ≡ None

@@ -1,3 +1,2 @@
--- The texts, and what their writers ask of a buffer and of what appends a text.
+-- The texts, and what their writers ask of what appends a text.
 pub mod Texts
-pub mod Places

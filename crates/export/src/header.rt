@@ -6,7 +6,7 @@ ghost use Rattle.text.specs.Appending.{Appends};
 ghost use Rattle.export.specs.Texts.{header_lines, lines_written};
 
 use crate::output::write_text;
-use crate::pairs::{Around, Pairs};
+use crate::pairs::{Around, append_pairs};
 use model::{Fault, Kind};
 use record::Record;
 use text::append;
@@ -62,8 +62,8 @@ fn append_lines(out: &mut [u8], graph: &Record, format: Format) -> usize
         ..subgraph
     };
     let p = append_name(out, graph, format.name);
-    let q = Pairs::of(graph, Kind::Subgraph).append(out, p, subgraph);
-    Pairs::of(graph, Kind::Translation).append(out, q, translation)
+    let q = append_pairs(out, p, graph.pairs(Kind::Subgraph), subgraph);
+    append_pairs(out, q, graph.pairs(Kind::Translation), translation)
 }
 
 // Writes a record as the header lines of a format.
@@ -75,6 +75,8 @@ fn write_lines(b: &[u8], out: &mut [u8], format: Format) -> Result<usize, Fault>
     let graph = Record::open(b)?;
     write_text(out, |out| append_lines(out, &graph, format))
 }
+
+// Both formats have the Rust's names, and a line each.
 
 // Writes a record as GFA header lines.
 #[tactic(auto, unfolding(model::specs::Written::gfa_written, model::specs::Writing::to_gfa_header_lines, crate::specs::Texts::lines_written))]

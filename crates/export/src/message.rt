@@ -1,4 +1,5 @@
 // The Rust's error texts for the numbers 1 to 10: the line for the first two, the words of the number, and from 2 on the quoted part.
+// They are appended and not formatted by Display, since every byte is proved.
 ghost use Rattle.std.specs.Prelude.{◌≡◌, ◌++◌, length};
 ghost use Rattle.model.specs.Text.{text};
 ghost use Rattle.model.specs.Numbers.{decimal};
@@ -27,7 +28,7 @@ fn append_about_line(out: &mut [u8], line: usize, words: &[u8]) -> usize
     append(out, q, words)
 }
 
-// Appends a refusal's text to the front of the output; no other number has one.
+// Appends a refusal's text to the front of the output; no other number has one. By number, since C may ask for any.
 fn append_message(out: &mut [u8], number: usize, line: usize, part: &[u8]) -> usize
     ensures { Appends out.old 0 (error_message number line part.now) result out.new }
 {

@@ -1,15 +1,13 @@
 // The pairs of a record as text: the lines of either format, and the relations of a tag.
-ghost use Rattle.std.specs.Prelude.{◌≡◌, ◌≤◌, ◌<◌, ◌+◌, length, take, drop};
-ghost use Rattle.model.specs.Layout.{entry_length, pair_length, entry_at, bodies_at, from_place, to_place, name_at};
+ghost use Rattle.std.specs.Prelude.{◌≡◌};
 ghost use Rattle.model.specs.Questions.{pairs_of};
 ghost use Rattle.model.specs.Writing.{relations_tag};
 ghost use Rattle.text.specs.Appending.{Appends};
+ghost use Rattle.record.specs.Pairs.{pairs_left};
 ghost use Rattle.export.specs.Texts.{pair_text, pair_texts, value_text};
-ghost use Rattle.export.specs.Places.{HasPair};
 
 use model::Kind;
-use record::{PAIR_LENGTH, Record, bodies_at, name_in, pair_count, pair_from, pair_to, table_at};
-use std::marker::Model;
+use record::{Pairs, Record};
 use text::{append, append_byte};
 
 // What stands around the two names of a pair.
@@ -20,45 +18,12 @@ pub(crate) struct Around<'a> {
     pub(crate) after: &'a [u8],
 }
 
-// Pairs in a record's bytes: the byte at which they begin, how many there are, and the byte at which the bodies of the names begin.
-#[derive(Drop)]
-pub(crate) struct Pairs<'a> {
-    bytes: &'a [u8],
-    bodies: usize,
-    start: usize,
-    count: usize,
-}
-
-impl<'a> Model for Pairs<'a> {
-    ghost use Rattle.std.specs.Prelude.{List};
-    ghost use Rattle.model.specs.Record.{Pair};
-    ghost use Rattle.model.specs.Layout.{pairs_from};
-    ghost use Rattle.export.specs.Places.{PairsIn};
-
-    ghost Value = { List Pair };
-
-    ghost view = { λ p. pairs_from p.bytes.now p.start p.count };
-
-    ghost invariant = { λ p. PairsIn p.bytes.now p.bodies p.start p.count };
-}
-
-// Appends the two names of the pair at byte `pair`, and what stands around them. Inlined, since each writer knows what that is: relations are
-// written in two thirds of the time, lines in four fifths.
+// Appends two names, and what stands around them. Inlined, since each writer knows what that is: relations are written in two thirds of the
+// time, lines in four fifths.
 #[inline(always)]
-fn append_pair(
-    out: &mut [u8],
-    at: usize,
-    b: &[u8],
-    bodies: usize,
-    pair: usize,
-    around: Around,
-) -> usize
-    requires { HasPair b.now bodies pair }
-    ensures { Appends out.old at
-        (pair_text around.entry.before.now around.entry.between around.entry.after.now (name_at b.now (from_place b.now pair)) (name_at b.now (to_place b.now pair))) result out.new }
+fn append_pair(out: &mut [u8], at: usize, from: &[u8], to: &[u8], around: Around) -> usize
+    ensures { Appends out.old at (pair_text around.entry.before.now around.entry.between around.entry.after.now from.now to.now) result out.new }
 {
-    let from = name_in(b, bodies, pair_from(b, pair));
-    let to = name_in(b, bodies, pair_to(b, pair));
     let p = append(out, at, around.before);
     let q = append(out, p, from);
     let r = append_byte(out, q, around.between);
@@ -66,59 +31,16 @@ fn append_pair(
     append(out, s, around.after)
 }
 
-impl<'a> Pairs<'a> {
-    // The pairs of a kind.
-    pub(crate) fn of(graph: &Record<'a>, kind: Kind) -> Pairs<'a>
-        ensures { result ≡ pairs_of kind graph.now }
-    {
-        let bytes = graph.bytes();
-        Pairs {
-            bytes,
-            bodies: bodies_at(bytes),
-            start: table_at(bytes, kind),
-            count: pair_count(bytes, kind),
-        }
+// Appends the names of each pair, and what stands around them; inlined likewise.
+#[inline(always)]
+pub(crate) fn append_pairs<'a>(out: &mut [u8], at: usize, pairs: Pairs<'a>, around: Around) -> usize
+    ensures { Appends out.old at (pair_texts around.entry.before.now around.entry.between around.entry.after.now (pairs_left pairs.entry)) result out.new }
+{
+    let mut q = at;
+    for (from, to) in pairs {
+        q = append_pair(out, q, from, to, around);
     }
-
-    // The first n pairs, and those behind them.
-    fn split_at(&self, n: usize) -> (Pairs<'a>, Pairs<'a>)
-        ensures front { result.0 ≡ take n self.now }
-        ensures rest { result.1 ≡ drop n self.now }
-    {
-        let count = n.min(self.count);
-        let front = Pairs {
-            bytes: self.bytes,
-            bodies: self.bodies,
-            start: self.start,
-            count,
-        };
-        let rest = Pairs {
-            bytes: self.bytes,
-            bodies: self.bodies,
-            start: self.start + PAIR_LENGTH * count,
-            count: self.count - count,
-        };
-        (front, rest)
-    }
-
-    // Appends the names of each pair, and what stands around them; inlined likewise.
-    #[inline(always)]
-    pub(crate) fn append(&self, out: &mut [u8], at: usize, around: Around) -> usize
-        ensures { Appends out.old at (pair_texts around.entry.before.now around.entry.between around.entry.after.now self.now) result out.new }
-    {
-        let mut q = at;
-        for i in 0..self.count {
-            q = append_pair(
-                out,
-                q,
-                self.bytes,
-                self.bodies,
-                self.start + PAIR_LENGTH * i,
-                around,
-            );
-        }
-        q
-    }
+    q
 }
 
 // Appends the relations of a kind to the front of the output: `from,to` for each pair, semicolons between.
@@ -134,7 +56,10 @@ pub(crate) fn append_relations(out: &mut [u8], graph: &Record, kind: Kind) -> us
         before: b";",
         ..alone
     };
-    let (first, rest) = Pairs::of(graph, kind).split_at(1);
-    let p = first.append(out, 0, alone);
-    rest.append(out, p, further)
+    let mut pairs = graph.pairs(kind);
+    let Some((from, to)) = pairs.next() else {
+        return 0;
+    };
+    let p = append_pair(out, 0, from, to, alone);
+    append_pairs(out, p, pairs, further)
 }

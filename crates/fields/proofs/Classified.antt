@@ -1,6 +1,8 @@
 -- A field's effect is what it says by itself, taken into the graph name so far: one law each for typed fields, `@` lines and relations of tags.
 use Rattle.std.proofs.Common.{◌≡◌, refl, Bool, true, false, cond, ◌&&◌, List, [], ◌∷◌, ℕ, ◌≤◌, ◌<◌, length, drop, get_or, eqb, arith, eqb-true, eq-eqb}
+use Rattle.std.proofs.lemmas.Bool.{and_parts}
 use Rattle.std.specs.Prelude.{Option, Some, None}
+use Rattle.std.specs.Cmp.{both_ways}
 use Rattle.model.specs.declared.Kind.{Kind}
 use Rattle.model.specs.declared.Kind.TheVariants.{Subgraph, Translation}
 use Rattle.model.specs.Text.{text}
@@ -8,21 +10,20 @@ use Rattle.model.specs.Bytes.{Bytes, compare_numbers, compare_bytes, same_bytes,
 use Rattle.model.specs.Record.{Pair, GraphName, with_name}
 use Rattle.model.specs.Reading.{or_wrong, two_parts, add_to, one_name, typed_field, is_gaf_head, gaf_line}
 use Rattle.text.proofs.Order.{same_bytes_refl, same_bytes_true}
-use Rattle.text.proofs.Tests.{both_true, same_tests}
 use Rattle.fields.specs.Fields.{FieldMeaning, apply, related_by, one_named, fault, named, classify_string, classify_typed, classify_gaf}
 
 -- a string of two bytes is compared byte by byte
 pub two_bytes : (s : Bytes) (x y : ℕ) → 2 ≤ length s → length s < 3 → same_bytes s (x ∷ y ∷ []) ≡ eqb (get_or s 0 0) x && eqb (get_or s 1 0) y
 two_bytes [] x y h k = absurd (omega arith)
 two_bytes (a ∷ []) x y h k = absurd (omega arith)
-two_bytes (a ∷ b ∷ []) x y h k = same_tests _ _
+two_bytes (a ∷ b ∷ []) x y h k = both_ways _ _
     (λ e.
     let l : ◌≡◌ {A = Bytes} (a ∷ b ∷ []) (x ∷ y ∷ []) = (same_bytes_true (a ∷ b ∷ []) (x ∷ y ∷ [])).0 e in
     let p : a ≡ x = cc in
     let q : b ≡ y = cc in
     rw (eq-eqb a x p, eq-eqb b y q))
     (λ e.
-    let w = both_true (eqb a x) (eqb b y) e in
+    let w = and_parts (eqb a x) (eqb b y) e in
     rw (eqb-true a x w.0, eqb-true b y w.1) (same_bytes_refl (x ∷ y ∷ [])))
 two_bytes (a ∷ b ∷ c ∷ s) x y h k = absurd (omega arith)
 
@@ -61,7 +62,7 @@ module _ (g : GraphName) where
   pub gaf_classified : (head : Bytes) (rest : List Bytes) → is_gaf_head head ≡ true → gaf_line g head rest ≡ apply g (classify_gaf (drop 1 head) rest)
   unfolding gaf_line classify_gaf
   gaf_classified head rest h =
-      let b : get_or head 0 0 ≡ 64 = eqb-true (get_or head 0 0) 64 (both_true (eqb (length head) 3) (eqb (get_or head 0 0) 64) h).1 in
+      let b : get_or head 0 0 ≡ 64 = eqb-true (get_or head 0 0) 64 (and_parts (eqb (length head) 3) (eqb (get_or head 0 0) 64) h).1 in
       let ps = two_parts rest in
       rw (same_behind head (text "RN") b, same_behind head (text "SG") b, same_behind head (text "TL") b)
       (simp (apply_cond, name_classified rest, relation_classified Subgraph 7 ps, relation_classified Translation 8 ps))

@@ -8,7 +8,6 @@ use Rattle.model.specs.Bytes.{Bytes, index_of, split, same_bytes, compare_bytes,
 use Rattle.model.specs.Record.{GraphName, empty}
 use Rattle.model.specs.Reading.{Reading, two_parts, add_to, Taken, took, wrong, done, after_taken, after_reading, refuse, typed_field, typed_fields, is_gaf_head, gaf_line, line_fields, lines_from, without_last_empty, from_header_lines, tag_number, tag_relations, tag_value}
 use Rattle.text.proofs.Split.{split_from, split_last, split_more}
-use Rattle.text.proofs.Tests.{same_tests}
 use Rattle.fields.specs.Rest.{lines_at, parts_at, NoLines, rest_of, line_begin, field_begin}
 use Rattle.fields.specs.declared.step.Tally.{Tally}
 use Rattle.fields.specs.Fields.{apply, classify_part, separator_of}
@@ -17,6 +16,7 @@ use Rattle.fields.specs.declared.field.Source.TheVariants.{Header, Tag}
 use Rattle.model.specs.declared.Kind.{Kind}
 use Rattle.std.specs.Prelude.{Some, nat_eq}
 use Rattle.std.specs.List.{starts_with}
+use Rattle.std.specs.Cmp.{both_ways}
 use Rattle.text.proofs.Order.{same_bytes_false}
 use Rattle.fields.proofs.Classified.{typed_classified, relation_classified}
 use Rattle.fields.proofs.Parts.{parts_from, between, parts_more, part_length, part_within, first_and_rest, no_rest}
@@ -75,7 +75,7 @@ module _ (sep : ℕ) (t : Bytes) (stop : ℕ) (h : 0 < stop) (w : stop ≤ lengt
 
   parts_up_to : (i : ℕ) → parts_at sep t stop i ≡ parts_from sep (take (stop - 1) t) i
   parts_up_to i =
-      let e : ltb i stop ≡ leb i (stop - 1) = same_tests _ _ (λ p. le-leb i (stop - 1) (omega (arith, ltb-true i stop p))) (λ p. lt-ltb i stop (omega (arith, leb-true i (stop - 1) p))) in
+      let e : ltb i stop ≡ leb i (stop - 1) = both_ways _ _ (λ p. le-leb i (stop - 1) (omega (arith, ltb-true i stop p))) (λ p. lt-ltb i stop (omega (arith, leb-true i (stop - 1) p))) in
       rw (up_to, e)
 
   pub next_part : (at e : ℕ) → at < stop → e ≡ at + index_of sep (drop at (take (stop - 1) t))

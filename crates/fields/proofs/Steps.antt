@@ -3,6 +3,7 @@ use Rattle.std.proofs.Common.{◌≡◌, refl, sym, ap, ◌∙◌, true, false, 
 use Rattle.std.specs.Prelude.{Result, Err, nat_eq}
 use Rattle.std.specs.List.{starts_with}
 use Rattle.std.proofs.Math.Seq.{take-length}
+use Rattle.std.proofs.lemmas.Bool.{and_parts}
 use Rattle.text.proofs.Order.{same_bytes_true}
 use Rattle.model.specs.declared.fault.Fault.{Fault}
 use Rattle.model.specs.declared.fault.Fault.TheVariants.{ShortLine, UnknownFirstField}
@@ -10,7 +11,6 @@ use Rattle.model.specs.Text.{text}
 use Rattle.model.specs.Bytes.{Bytes, index_of, split, same_bytes}
 use Rattle.model.specs.Record.{empty}
 use Rattle.model.specs.Reading.{is_gaf_head}
-use Rattle.text.proofs.Tests.{both_true}
 use Rattle.fields.specs.Fields.{classify_gaf, classify_part, separator_of}
 use Rattle.fields.specs.Contents.{meaning_of, PlacesIn}
 use Rattle.fields.specs.Rest.{NoLines, Tallies, IsLine, Reads}
@@ -45,6 +45,7 @@ module _ {before : Fields} {tally : Tally} (counts : Tallies before tally) (h : 
         part = omega (arith, part_ends, before.within);
         places = w.1;
         onward = omega arith;
+        source = a;
         text = b;
         counts = record {
           lines = omega (arith, counts.lines);
@@ -91,7 +92,7 @@ module _ (line : Bytes) (k : ℕ) (o : starts_with nat_eq line (72 ∷ 9 ∷ [])
         → (meaning_of line c ≡ classify_gaf (take 2 (drop 1 line)) (split 9 (drop 4 line))) × PlacesIn line c
         → IsLine line at (record { content = c; offset = at + k + 1; start = at; size = length line })
     gaf_field {at} u {c} v =
-        let n : k ≡ 3 = sym (length-take-le k line (omega arith)) ∙ eqb-true _ 3 (both_true (eqb (length (take k line)) 3) _ u).0 in
+        let n : k ≡ 3 = sym (length-take-le k line (omega arith)) ∙ eqb-true _ 3 (and_parts (eqb (length (take k line)) 3) _ u).0 in
         let z : at - at ≡ 0 = omega arith in
         let q : k + 1 ≡ 4 = omega arith in
         let w : take (length line) (drop (at - at) line) ≡ line = rw z (take-length line) in
@@ -148,6 +149,7 @@ module _ {before : Fields} {tally : Tally} (counts : Tallies before tally) (s : 
           part = omega (arith, l.part, line_length, line_ends);
           places = rw p at l.places;
           onward = omega (arith, line_ends);
+          source = a;
           text = b;
           counts = record {
             lines = omega (arith, counts.lines, line_ends);
@@ -161,7 +163,7 @@ module _ {before : Fields} {tally : Tally} (counts : Tallies before tally) (s : 
     module _ (o : starts_with nat_eq line (72 ∷ 9 ∷ []) ≡ true) where
       tests : (index_of 9 line < length line) × (same_bytes (take (index_of 9 line) line) (text "H") ≡ true)
       tests =
-          let b = both_true (ltb (index_of 9 line) (length line)) _ (sym (h_line line) ∙ o) in
+          let b = and_parts (ltb (index_of 9 line) (length line)) _ (sym (h_line line) ∙ o) in
           (ltb-true _ _ b.0, b.1)
 
       head_size : index_of 9 line ≡ 1
@@ -191,6 +193,7 @@ module _ {before : Fields} {tally : Tally} (counts : Tallies before tally) (s : 
             part = rw b at r.part;
             places = rw b at r.places;
             onward = omega (arith, r.onward);
+            source = r.source ∙ a;
             text = r.text ∙ b;
             counts = r.counts;
             counted = r.counted;

@@ -82,6 +82,7 @@ pub record Reads (before : Fields) (tally : Tally) (f : Field) (after : Fields) 
   pub part : f.start + f.size ≤ length before.text.now
   pub places : PlacesIn (part_of before.text.now f) f.content
   pub onward : before.at < after.at
+  pub source : after.source ≡ before.source
   pub text : after.text.now ≡ before.text.now
   pub counts : Tallies after begun
   pub counted : begun.fields ≡ tally.fields + 1

@@ -8,7 +8,7 @@ use crate::field::{Content, gaf_line};
 use model::Fault;
 
 // A field: what it says; the byte of the whole text at which it begins (an `@` line counts as one field, which begins with its second);
-// and the part of the text in which its places are counted and which a refusal quotes.
+// and the part of the text in which its places are counted and which a refusal quotes, as C has it: where it starts, and its size.
 #[derive(Clone, Copy, Debug, PartialEq, Eq)]
 pub struct Field {
     pub content: Result<Content, Fault>,

@@ -13,7 +13,8 @@ pub struct Tally {
     pub fields: usize,
 }
 
-// A text that is read field by field: where the line or the tag being read stops (one past its end), and where the next field begins.
+// A text that is read field by field: where the line or the tag being read stops (one past its end), and where the next field begins. By places
+// and not by `split`, since a refusal tells the byte.
 #[derive(Drop)]
 pub struct Fields<'a> {
     pub source: Source,

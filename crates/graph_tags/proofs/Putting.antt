@@ -111,17 +111,18 @@ module _ (cs : List Change) (n s t : Option Bytes) (e : map pair_of cs ≡ three
         let l = length_changed name_key subgraph_key translation_key name_not_subgraph name_not_translation subgraph_not_translation n s t ts (holds b d).valid.order in
         rw (gone_by_pairs cs, added_by_pairs cs, e) (omega (arith, l))
 
-    -- too many in the end, or not
-    pub three_full : ltb (max_tags + gone cs ts) (length ts + added cs ts) ≡ true → judged_tags true (three_changed n s t ts) ≡ Err TagsFull
-    three_full h =
-        let l = ltb-true (max_tags + gone cs ts) (length ts + added cs ts) h in
-        judged_many true (three_changed n s t ts) refl (omega (arith, counted))
+    -- too many in the end, or not, by the list that is read off the block
+    module _ (us : List Tag) (u : us ≡ ts) where
+      pub three_full : ltb (max_tags + gone cs us) (length us + added cs us) ≡ true → judged_tags true (three_changed n s t ts) ≡ Err TagsFull
+      three_full h =
+          let l = ltb-true (max_tags + gone cs ts) (length ts + added cs ts) (rw u at h) in
+          judged_many true (three_changed n s t ts) refl (omega (arith, counted))
 
-    pub three_few : ltb (max_tags + gone cs ts) (length ts + added cs ts) ≡ false → length (filled cs (cleared cs ts)) ≤ max_tags
-    three_few h =
-        let l = ltb-false (max_tags + gone cs ts) (length ts + added cs ts) h in
-        let k : length (three_changed n s t ts) ≤ max_tags = omega (arith, counted) in
-        rw three_same at k
+      pub three_few : ltb (max_tags + gone cs us) (length us + added cs us) ≡ false → length (filled cs (cleared cs ts)) ≤ max_tags
+      three_few h =
+          let l = ltb-false (max_tags + gone cs ts) (length ts + added cs ts) (rw u at h) in
+          let k : length (three_changed n s t ts) ≤ max_tags = omega (arith, counted) in
+          rw three_same at k
 
     pub three_judged : length (filled cs (cleared cs ts)) ≤ max_tags → judged_tags true (three_changed n s t ts) ≡ Ok (filled cs (cleared cs ts))
     three_judged few = rw three_same (judged_gives true (filled cs (cleared cs ts)) refl few)
@@ -135,5 +136,3 @@ module _ (cs : List Change) (n s t : Option Bytes) (e : map pair_of cs ≡ three
 
     pub cleared_shown : shown_tags (encode_tags (cleared cs ts)) ≡ cleared cs ts
     cleared_shown = listed_shown (cleared cs ts) valid_cleared
-
-pub ruleset putting = (three_fit, three_full, three_few, three_judged, cleared_is, cleared_shown)

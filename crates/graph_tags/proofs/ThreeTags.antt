@@ -5,6 +5,7 @@ use mathlib.Core.Logic.{◌⊎◌, inl, inr, ◌≢◌}
 use mathlib.Core.Bool.{true, ◌&&◌}
 use mathlib.Core.List.{List}
 use Rattle.std.specs.Prelude.{Option}
+use Rattle.std.proofs.lemmas.Bool.{and_parts}
 use Prim.Native.Nat.{◌+◌, ◌≤◌}
 use native.Mathlib.Omega.{arith}
 use lib.ListN.{length}
@@ -15,7 +16,6 @@ use Rattle.model.specs.Statements.{Ascending}
 use Rattle.model.specs.TagList.{Tag, compare_tags, look_up, set_or_remove, set_graph_name, max_tags, max_value, stored_key}
 use Rattle.model.specs.TagOutcome.{short_tags}
 use Rattle.model.specs.TagStatements.{ValidTags}
-use Rattle.text.proofs.Tests.{both_true}
 use Rattle.graph_tags.specs.Change.{remove_absent, set_present, name_key, subgraph_key, translation_key}
 use Rattle.tag_list.proofs.Map.{same_lists}
 use Rattle.tag_edits.proofs.Outcome.{differ}
@@ -111,8 +111,8 @@ module _ (a b c : Bytes) (ab : a ≢ b) (ac : a ≢ c) (bc : b ≢ c) (n s t : O
   pub changed_valid : ValidTags ts → stored_key a ≡ true → stored_key b ≡ true → stored_key c ≡ true
       → fits n max_value && (fits s max_value && fits t max_value) ≡ true → length (changed a b c n s t ts) ≤ max_tags → ValidTags (changed a b c n s t ts)
   changed_valid h i j k short few =
-      let p = both_true (fits n max_value) (fits s max_value && fits t max_value) short in
-      let q = both_true (fits s max_value) (fits t max_value) p.1 in
+      let p = and_parts (fits n max_value) (fits s max_value && fits t max_value) short in
+      let q = and_parts (fits s max_value) (fits t max_value) p.1 in
       let us = cleared a b c n s t ts in
       let us_valid : ValidTags us = absent_valid c t _ (absent_valid b s _ (absent_valid a n ts h)) in
       let vs = set_present a n us in

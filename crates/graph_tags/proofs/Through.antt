@@ -3,6 +3,7 @@ use mathlib.Core.Path.{◌≡◌, refl, ap, ◌∙◌}
 use mathlib.Core.Logic.{◌≢◌}
 use mathlib.Core.Bool.{Bool, true, false, cond, ◌&&◌}
 use Rattle.std.specs.Prelude.{Option, Some, None, Ok, Err}
+use Rattle.std.proofs.lemmas.Bool.{and_parts}
 use Prim.Native.Nat.{◌+◌}
 use lib.ListN.{length, take, drop}
 use lib.Seq.{take_at}
@@ -17,9 +18,7 @@ use Rattle.model.specs.Questions.{asked, mapped}
 use Rattle.model.specs.Written.{Tags, fits, tags_of, all_within, tag_sizes, tags_written, put_value, output_with_tag}
 use Rattle.model.specs.TagList.{max_value, set_graph_name, shown_tags, decode_tags}
 use Rattle.model.specs.TagOutcome.{tag_list, short_tags, judged_tags, set_graph_name_in}
-use Rattle.text.proofs.Tests.{both_true}
-use Rattle.tag_list.proofs.Asking.{list_opened}
-use Rattle.tag_list.proofs.Ready.{list_refused, list_given}
+use Rattle.tag_list.proofs.Ready.{list_refused, list_given, list_opened}
 use Rattle.tag_edits.proofs.Inserting.{judged_long}
 use Rattle.graph_tags.specs.Change.{three_changed}
 
@@ -149,8 +148,8 @@ module _ (b buffer : Bytes) where
     values_fit =
         let (g, q, s, w) = short_record in
         let v = tags_of g in
-        let p = both_true (fits v.name max_value) (fits v.subgraph max_value && fits v.translation max_value) s in
-        let r = both_true (fits v.subgraph max_value) (fits v.translation max_value) p.1 in
+        let p = and_parts (fits v.name max_value) (fits v.subgraph max_value && fits v.translation max_value) s in
+        let r = and_parts (fits v.subgraph max_value) (fits v.translation max_value) p.1 in
         rw w (p.0, r.0, r.1)
 
 pub ruleset through = (list_opened, name_written, subgraph_written, translation_written, through_refused, through_long, through_done, values_fit)

@@ -11,10 +11,10 @@ ghost use Rattle.graph_tags.specs.Change.{pair_of, three_pairs, three_changed};
 use crate::change::{Change, clear_absent, fill_present, is_full_then};
 use export::set_tags;
 use model::Fault;
-use tag_list::{MAX_VALUE, check_list};
+use tag_list::{MAX_VALUE, TagList, check_list};
 use text::{filled, part};
 
-// What is made of a record's three tags.
+// What is made of a record's three tags, which come one by one, as the Rust has them.
 fn three_changes<'a>(
     name: Option<&'a [u8]>,
     subgraph: Option<&'a [u8]>,
@@ -39,7 +39,6 @@ fn three_changes<'a>(
 }
 
 // Puts the values of the three tags in, and removes those that are absent, unless there would be too many tags.
-#[tactic(auto, using(crate::proofs::Putting::putting))]
 fn put_three(
     list: &mut [u8],
     name: Option<&[u8]>,
@@ -54,7 +53,7 @@ fn put_three(
     ensures list_after { list.new ≡ list_with (judged_tags true (three_changed (option_copied name.entry) (option_copied subgraph.entry) (option_copied translation.entry) (shown_tags list.old))) list.old }
 {
     let changes = three_changes(name, subgraph, translation);
-    if is_full_then(list, &changes) {
+    if is_full_then(&TagList::of(list), &changes) {
         return Err(Fault::TagsFull);
     }
     clear_absent(list, &changes);

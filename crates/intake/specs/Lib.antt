@@ -1,2 +1,2 @@
--- What a reading has so far.
+-- What a field taken comes to.
 pub mod State

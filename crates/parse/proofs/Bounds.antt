@@ -84,7 +84,7 @@ lines_from_small line start [] g h = h
 lines_from_small line start (l ∷ ls) g h =
     reading_small (line_fields line start l (split 9 l) g) (lines_from (suc line) (start + length l + 1) ls) (line_fields_small line start l (split 9 l) g h) (lines_from_small (suc line) (start + length l + 1) ls)
 
-empty_sizes : judge empty ≡ 0
+pub empty_sizes : judge empty ≡ 0
 unfolding judge names insert_all
 empty_sizes = refl
 

@@ -2,6 +2,7 @@
 use Rattle.std.proofs.Common.{◌≡◌, refl, sym, ◌∙◌, ◌≢◌, Bool, true, false, cond, ◌&&◌, ◌||◌, List, [], ◌∷◌, ℕ, ◌+◌, ◌*◌, ◌≤◌, arith, lit≤, eqb, leb, length, drop, replicate, length-append, length-drop, eqb-true, leb-true}
 use Rattle.std.specs.Prelude.{Option, Some, None, Ok, Err}
 use Rattle.std.proofs.lemmas.List.{length-replicate}
+use Rattle.std.proofs.lemmas.Bool.{and_parts}
 use Rattle.model.specs.declared.fault.Fault.TheVariants.{WrongBuffer, NotARecord, OutputShort, LongDesc}
 use Rattle.model.specs.declared.fault.Fault.{Fault}
 use Rattle.model.specs.Faults.{fault_number}
@@ -23,7 +24,6 @@ use Rattle.model.specs.Opening.{Given, number_of, and_then, both_given, or_refus
 use Rattle.model.specs.Written.{within, gfa_written, gaf_written, message_written, with_descs, relationship_written, output_with, Tags, tags_of, fits, all_within, tags_written, put_value}
 use Rattle.model.specs.Statements.{LeavesEmpty, LeavesRecord, LeavesNumbers, LeavesOutput, OneTagLeft, LeavesTags, LeavesAnswer, RecordsDemand1}
 use Rattle.text.proofs.Put.{length_put}
-use Rattle.text.proofs.Tests.{both_true}
 use Rattle.record.proofs.Sizes.{judge_sizes}
 use Rattle.record.proofs.Opening.{written_opened, written_refused}
 use Rattle.parse.proofs.Bounds.{Small, judge_small, header_small, tags_small}
@@ -200,7 +200,7 @@ module _ (b : Bytes) where
 
   both_left : (c : Bytes) (f : GraphName → GraphName → Outcome) → (length b ≡ record_length → (g h : GraphName) → RecordAt b (f g h)) → RecordAt b (change_from b c f)
   both_left c f h =
-      opened_left (two_records b c) (two_small b c) (λ e. (both_true (has_size b) (has_size c) e).0) (λ r. f r.0 r.1) (λ e r. h e r.0 r.1)
+      opened_left (two_records b c) (two_small b c) (λ e. (and_parts (has_size b) (has_size c) e).0) (λ r. f r.0 r.1) (λ e r. h e r.0 r.1)
 
   pair_left : (kind : Kind) (from to : Bytes) → RecordAt b (add_pair kind from to b)
   pair_left kind from to =
@@ -336,7 +336,7 @@ tags_left (Err k) small = record {
 }
 tags_left (Ok v) small = record {
   numbers = λ n s t. numbers_left (all_within n s t (Ok v)) (bound (fits v.name n && (fits v.subgraph s && fits v.translation t)));
-  name = λ n s t. tag_left (λ w. w.name) n v (all n s t) (λ e. (both_true (one n) (two s t) e).0);
+  name = λ n s t. tag_left (λ w. w.name) n v (all n s t) (λ e. (and_parts (one n) (two s t) e).0);
   subgraph = λ n s t. tag_left (λ w. w.subgraph) s v (all n s t) (λ e. (rest n s t e).0);
   translation = λ n s t. tag_left (λ w. w.translation) t v (all n s t) (λ e. (rest n s t e).1);
 }
@@ -355,7 +355,7 @@ tags_left (Ok v) small = record {
     all n s t = one n && two s t
 
     rest : (n s t : Bytes) → all n s t ≡ true → (fits v.subgraph (length s) ≡ true) × (fits v.translation (length t) ≡ true)
-    rest n s t e = both_true (fits v.subgraph (length s)) (fits v.translation (length t)) (both_true (one n) (two s t) e).1
+    rest n s t e = and_parts (fits v.subgraph (length s)) (fits v.translation (length t)) (and_parts (one n) (two s t) e).1
 
 -- ------------------------------------------------------------------ every entry
 

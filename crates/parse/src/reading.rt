@@ -1,35 +1,31 @@
-// A text read field by field into the working tables.
-ghost use Rattle.std.specs.Prelude.{◌≡◌};
-ghost use Rattle.sorted.specs.Tables.{tables};
+// A text read field by field.
+ghost use Rattle.std.specs.Prelude.{◌≡◌, IfOk};
+ghost use Rattle.model.specs.Record.{judge};
 ghost use Rattle.fields.specs.Rest.{first_stop, rest_of};
-ghost use Rattle.intake.specs.State.{own_of, graph_now, FittingState};
-ghost use Rattle.parse.specs.Endings.{EndedAs};
+ghost use Rattle.parse.specs.Endings.{reading_of};
 
 use crate::refusal::Refusal;
 use fields::{Fields, Source, Tally};
-use intake::{State, take_field};
+use intake::State;
 
-// Reads all of a text into the tables.
+// Reads all of a text, up to the first fault.
 pub(crate) fn read_text<'a>(
     source: Source,
     text: &'a [u8],
-    refs: &mut [u32],
-    subs: &mut [u32],
-    trans: &mut [u32],
-    pool: &mut [u8],
-    begun: State<'a>,
-) -> Result<State<'a>, Refusal>
-    requires { FittingState (tables refs.old subs.old trans.old pool.old begun.sizes) (own_of begun) }
-    ensures { EndedAs (tables refs.new subs.new trans.new pool.new) result (rest_of source text.now 0 (first_stop source text.now) 0 (graph_now (tables refs.old subs.old trans.old pool.old begun.entry.sizes) (own_of begun.entry))) }
+    state: &mut State<'a>,
+) -> Result<(), Refusal>
+    requires { judge state.old ≡ 0 }
+    ensures reading { reading_of result state.new ≡ rest_of source text.now 0 (first_stop source text.now) 0 state.old }
+    ensures sizes { IfOk result (λ _. judge state.new ≡ 0) }
 {
-    let mut state = begun;
     let mut fields = Fields::new(source, text);
     let mut tally = Tally::default();
+    // Not a `for`: the tally is lent for each field, since document 01 counts beside the reader.
     while let Some(field) = fields.next(&mut tally) {
         let part = &text[field.start..field.start + field.size];
-        state = take_field(refs, subs, trans, pool, state, part, field.content).map_err(
-            |fault| Refusal::of_field(fault, field, tally),
-        )?;
+        state
+            .take_field(part, field.content)
+            .map_err(|fault| Refusal::of_field(fault, field, tally))?;
     }
-    Ok(state)
+    Ok(())
 }

@@ -9,8 +9,8 @@ ghost use Rattle.parse.specs.Refusals.{refusal_given, unplaced};
 use fields::{Field, Tally};
 use model::Fault;
 
-// A refusal: why; its line (from 1; 0 for none); the part of the text that it quotes; and its offset: the byte of the text at which that
-// part begins, or the line or field where none is quoted.
+// A refusal, as C has it: why; its line (from 1; 0 for none); the part of the text that it quotes (0 and 0 for none); and its offset: the byte of
+// the text at which that part begins, or the line or field where none is quoted.
 #[derive(Clone, Copy, Debug, PartialEq, Eq)]
 pub struct Refusal {
     pub fault: Fault,

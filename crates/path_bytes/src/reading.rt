@@ -23,7 +23,7 @@ fn name_length(path: &[u8], entry: usize) -> usize
     read16(path, entry)
 }
 
-// The kind of the step that leaves the name whose entry stands at this byte.
+// The kind of the step that leaves the name whose entry stands at this byte. Every number has one, so there is nothing that could be refused.
 fn step_kind(path: &[u8], entry: usize) -> Kind
     requires { entry + entry_length ≤ length path.now }
     ensures { result ≡ kind_numbered (step_kind path.now entry) }
@@ -35,14 +35,14 @@ fn step_kind(path: &[u8], entry: usize) -> Kind
 }
 
 // A step of a path: the name that it leaves, and its kind.
-#[derive(Clone, Copy)]
+#[derive(Clone, Copy, Debug, PartialEq, Eq)]
 pub struct StepFrom<'a> {
     pub name: &'a [u8],
     pub kind: Kind,
 }
 
 // A run of a path's steps: where the entry and the body of the name that the first one leaves stand in its bytes, and how many there are.
-#[derive(Clone, Copy)]
+#[derive(Clone, Copy, Debug)]
 pub struct Steps<'a> {
     path: &'a [u8],
     entry: usize,
@@ -61,6 +61,7 @@ impl<'a> Iterator for Steps<'a> {
 
     ghost remaining = { item_count steps_of };
 
+    // The next step.
     #[tactic(auto, using(crate::proofs::Stepping::read))]
     fn next(&mut self) -> Option<StepFrom<'a>> {
         if self.count == 0 {

@@ -78,6 +78,7 @@ impl<'a> FoundPath<'a> {
     {
         let mut path = self;
         let mut total = 0;
+        // By the predecessors, up to the first name, as `search::path_length` goes.
         while 0 < path.place {
             total += path.name().len();
             path = path.before();

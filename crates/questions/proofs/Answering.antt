@@ -2,22 +2,16 @@
 use mathlib.Core.Path.{◌≡◌, ◌∙◌}
 use mathlib.Core.Bool.{Bool}
 use mathlib.Core.List.{List}
-use Rattle.std.specs.Prelude.{Option, Some, None}
 use Prim.Native.Nat.{ℕ, ◌+◌, ◌<◌}
 use native.Mathlib.Omega.{arith}
 use lib.ListN.{length, get_or, take}
 use lib.Seq.{length-take-le}
 use Rattle.model.specs.Bytes.{Bytes}
 use Rattle.model.specs.Record.{GraphName, names}
-use Rattle.model.specs.declared.Kind.TheVariants.{Subgraph, Translation}
-use Rattle.model.specs.Layout.{name_count, own_number, pair_count, shown}
 use Rattle.model.specs.Opening.{Given}
 use Rattle.model.specs.Outcome.{name_or}
 use Rattle.model.specs.Statements.{Valid}
-use Rattle.record.specs.Reader.{place_numbered}
-use Rattle.record.specs.Holds.{HoldsRecord}
-use Rattle.record.proofs.Own.{own_shown, number_placed}
-use Rattle.record.proofs.Access.{record_count, record_pair_count, record_name}
+use Rattle.record.specs.Holds.{IsOwnAt}
 use Rattle.search.specs.Spans.{named}
 use Rattle.search.specs.Table.{Indexed}
 use Rattle.search.specs.Related.{StandsFor}
@@ -30,38 +24,10 @@ use Rattle.union.specs.declared.steps.Question.TheVariants as question
 use Rattle.union.specs.Steps.{by_question}
 use Rattle.union.specs.United.{NodesOf, IsUnited}
 use Rattle.questions.specs.declared.question.Own.{Own}
-use Rattle.questions.specs.declared.tables.Size.{Size}
 use Rattle.questions.specs.declared.tables.Tables.{Tables}
-use Rattle.questions.specs.Room.{IsSize, Roomy}
-use Rattle.questions.specs.Asked.{relations_of, IsOwnAt, IsOwnPlace, AreOwn, answer_of}
+use Rattle.questions.specs.Room.{Roomy}
+use Rattle.questions.specs.Asked.{relations_of, AreOwn, answer_of}
 use Rattle.questions.proofs.Demand.{stands_subgraph, stands_either}
-
--- the place of the own name, as a buffer has it
-own_place_shown : (b : Bytes) → HoldsRecord b → (o : Option ℕ) → o ≡ place_numbered (own_number b) → IsOwnPlace (shown b) o
-own_place_shown b r None e = own_shown b ∙ rw (← e)
-own_place_shown b r (Some p) e =
-    let n = number_placed (own_number b) p (rw (← e)) in
-    let l : p < name_count b = omega (arith, n, r.own) in
-    (omega (arith, l, record_count b (shown b) r.decoded), own_shown b ∙ rw (← e, record_name b (shown b) r.decoded p l))
-
-pub own_placed : (b : Bytes) → HoldsRecord b → (g : GraphName) → shown b ≡ g → (o : Option ℕ) → o ≡ place_numbered (own_number b) → IsOwnPlace g o
-own_placed b r g is o e = rw is at (own_place_shown b r o e)
-
--- how much two buffers hold, as they count it
-pub sized : (b c : Bytes) → HoldsRecord b → HoldsRecord c → (g h : GraphName) → shown b ≡ g → shown c ≡ h → (s : Size)
-    → s.names ≡ name_count b + name_count c
-    → s.pairs ≡ pair_count Subgraph b + pair_count Subgraph c + (pair_count Translation b + pair_count Translation c) → IsSize g h s
-sized b c hb hc g h is_g is_h s names pairs =
-    let counted = record_count b (shown b) hb.decoded in
-    let counted' = record_count c (shown c) hc.decoded in
-    let of = record_pair_count b (shown b) hb.decoded in
-    let of' = record_pair_count c (shown c) hc.decoded in
-    rw (← is_g, ← is_h) (record {
-      names = omega arith;
-      pairs = omega (arith, of Subgraph, of' Subgraph, of Translation, of' Translation);
-      names_most = omega (arith, hb.count, hc.count);
-      pairs_most = omega (arith, hb.subgraphs, hb.translations, hc.subgraphs, hc.translations);
-    })
 
 -- the lists of a question stand for its relations
 question_stands : (q : Question) (g h : GraphName) → Valid g → Valid h → StandsFor (relations_of q g h) (by_question q g h)

@@ -1,9 +1,10 @@
 -- The question of either kind: about any two buffers, and between the own names of two records.
-use Rattle.std.specs.Prelude.{◌≡◌, [], ℕ, ◌<◌, length, get_or, Option, Some, None}
+use Rattle.std.specs.Prelude.{ℕ}
 use Rattle.model.specs.Bytes.{Bytes}
-use Rattle.model.specs.Record.{GraphName, names}
+use Rattle.model.specs.Record.{GraphName}
 use Rattle.model.specs.Path.{Relations, subgraph_relations, all_relations, best_path}
 use Rattle.model.specs.Outcome.{Answer, answered, sized, name_or, ask_subgraph, ask_full}
+use Rattle.record.specs.Holds.{IsOwnAt}
 use Rattle.union.specs.declared.steps.Question.{Question}
 use Rattle.union.specs.declared.steps.Question.TheVariants as question
 use Rattle.questions.specs.declared.question.Own.{Own}
@@ -17,15 +18,7 @@ abbrev pub relations_of : Question → GraphName → GraphName → Relations
 relations_of question.Full g h = all_relations g h
 relations_of question.Subgraph g h = subgraph_relations g h
 
--- at place p is the own name
-abbrev pub IsOwnAt : GraphName → ℕ → Type 0
-IsOwnAt g p = (p < length (names g)) × (g.name ≡ Some (get_or (names g) p []))
-
--- its place, if there is an own name
-abbrev pub IsOwnPlace : GraphName → Option ℕ → Type 0
-IsOwnPlace g None = g.name ≡ None
-IsOwnPlace g (Some p) = IsOwnAt g p
-
+-- the places of the own names of both
 abbrev pub AreOwn : GraphName → GraphName → Own → Type 0
 AreOwn g h own = IsOwnAt g own.first × IsOwnAt h own.second
 

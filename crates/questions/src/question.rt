@@ -3,7 +3,7 @@ ghost use Rattle.std.specs.Prelude.{◌≡◌, ◌+◌, ◌≤◌, ◌<◌, leng
 ghost use Rattle.model.specs.Outcome.{ask_subgraph, ask_full};
 ghost use Rattle.path_bytes.specs.Replies.{Replies};
 ghost use Rattle.union.specs.United.{names_of_both, pairs_of_two};
-ghost use Rattle.questions.specs.Asked.{ask_of, IsOwnPlace, AreOwn, answer_of};
+ghost use Rattle.questions.specs.Asked.{ask_of, AreOwn, answer_of};
 ghost use Rattle.questions.specs.Room.{Roomy};
 
 use crate::tables::{
@@ -11,7 +11,7 @@ use crate::tables::{
 };
 use model::Fault;
 use path_bytes::find_path;
-use record::{Record, own_place};
+use record::Record;
 use search::{Graph, Search, Span, Step};
 use text::filled;
 use union::{Question, unite};
@@ -21,13 +21,6 @@ use union::{Question, unite};
 struct Own {
     first: usize,
     second: usize,
-}
-
-// The place of a record's own name, if it has one.
-fn place_of_own<'a>(b: &Record<'a>) -> Option<usize>
-    ensures { IsOwnPlace b.now result }
-{
-    own_place(b.bytes())
 }
 
 // The path between the own names of two records, over the pairs of both, in tables that are lent.
@@ -62,7 +55,7 @@ fn ask_in<'a>(
     find_path(united.names, graph, from, target, search, out)
 }
 
-// The same in tables of these sizes.
+// The same in tables of these sizes. STARTS is one more than NAMES, which a const argument can't compute.
 fn ask_sized<'a, const PAIRS: usize, const NAMES: usize, const STARTS: usize>(
     b: Record<'a>,
     c: Record<'a>,
@@ -98,10 +91,10 @@ fn ask<'a>(b: &'a [u8], c: &'a [u8], question: Question, out: &mut [u8]) -> Resu
     ensures { Replies (ask_of question b.now c.now (length out.old)) out.old result out.new }
 {
     let (b, c) = Record::open_both(b, c)?;
-    let Some(first) = place_of_own(&b) else {
+    let Some(first) = b.own_place() else {
         return Ok(false);
     };
-    let Some(second) = place_of_own(&c) else {
+    let Some(second) = c.own_place() else {
         return Ok(false);
     };
     let own = Own { first, second };
@@ -111,6 +104,8 @@ fn ask<'a>(b: &'a [u8], c: &'a [u8], question: Question, out: &mut [u8]) -> Resu
     }
     ask_sized::<LARGE_PAIRS, LARGE_NAMES, LARGE_STARTS>(b, c, own, question, out)
 }
+
+// The two path questions have the Rust's names, and a line each.
 
 // Whether the graph of b is a subgraph of that of c, by subgraph pairs; on a yes the path's bytes go to the front of the output.
 pub fn is_subgraph_of<'a>(b: &'a [u8], c: &'a [u8], out: &mut [u8]) -> Result<bool, Fault>

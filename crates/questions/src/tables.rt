@@ -4,7 +4,7 @@ ghost use Rattle.union.specs.United.{names_of_both, pairs_of_two};
 ghost use Rattle.questions.specs.Room.{IsSize};
 
 use model::Kind;
-use record::{MAX_NAMES, MAX_PAIRS, Record, name_count, pair_count};
+use record::{MAX_NAMES, MAX_PAIRS, Record};
 use search::{Span, Step};
 
 // So many names, each counted in both records, fit the small tables, which take less time to clear.
@@ -47,12 +47,10 @@ pub(crate) struct Size {
 pub(crate) fn size_of<'a>(b: &Record<'a>, c: &Record<'a>) -> Size
     ensures { IsSize b.now c.now result }
 {
-    let b = b.bytes();
-    let c = c.bytes();
-    let subgraphs = pair_count(b, Kind::Subgraph) + pair_count(c, Kind::Subgraph);
-    let translations = pair_count(b, Kind::Translation) + pair_count(c, Kind::Translation);
+    let subgraphs = b.pair_count(Kind::Subgraph) + c.pair_count(Kind::Subgraph);
+    let translations = b.pair_count(Kind::Translation) + c.pair_count(Kind::Translation);
     Size {
-        names: name_count(b) + name_count(c),
+        names: b.name_count() + c.name_count(),
         pairs: subgraphs + translations,
     }
 }

@@ -14,7 +14,7 @@ use Rattle.model.specs.Numbers.{number}
 use Rattle.model.specs.Record.{Pair, GraphName, names, max_name_bytes}
 use Rattle.model.specs.Layout.{body_length, body_start, counts_length, entry_length, pair_length, name_count, own_number, record_length, name_at, pairs_from, own_at, shown, decode, bodies_at, pair_count, table_at}
 use Rattle.text.proofs.Places.{get_or_member}
-use Rattle.record.specs.Test.{pairs_at, pairs_ok, entries_of, names_of}
+use Rattle.record.specs.Test.{Under, pairs_at, pairs_ok, entries_of, names_of}
 use Rattle.record.proofs.Words.{length_rows_at, get_or_rows_at}
 use Rattle.record.proofs.Entries.{entry_within}
 use Rattle.record.proofs.Places.{under_pair}
@@ -83,16 +83,18 @@ module _ (b : Bytes) (g : GraphName) (e : decode b ≡ Some g) where
   pub record_pair : (k : Kind) (i : ℕ) (d : Pair) → i < pair_count k b → get_or (pairs_of k g) i d ≡ pair_at b (table_at k b + pair_length * i)
   record_pair k i d h = rw (record_pairs k) (get_or_pairs_from b (table_at k b) (pair_count k b) i d h)
 
-  -- a pair's places are places of names
-  pub pair_within : (k : Kind) (i : ℕ) → i < pair_count k b
-      → (number b (table_at k b + pair_length * i) < name_count b) × (number b (table_at k b + pair_length * i + 2) < name_count b)
-  pair_within k i h =
-      let ps = pairs_at (pair_count k b) (drop (table_at k b) b) in
-      let u = ((pairs_ok_true (name_count b) ps).0 (kind_ok k)).0 in
-      let l = length_rows_at pair_length (pair_count k b) (drop (table_at k b) b) in
-      let m = get_or_member (0, 0) ps i (omega arith) in
-      rw (get_or_rows_at pair_length (pair_count k b) (table_at k b) b i h) at (under_pair (name_count b) ps (get_or ps i (0, 0)) u m)
+  -- the pairs are of places of names
+  pub pairs_placed : (k : Kind) → Under (name_count b) (pairs_at (pair_count k b) (drop (table_at k b) b))
+  pairs_placed k = ((pairs_ok_true (name_count b) (pairs_at (pair_count k b) (drop (table_at k b) b))).0 (kind_ok k)).0
     where
       kind_ok : (k : Kind) → pairs_ok (name_count b) (pairs_at (pair_count k b) (drop (table_at k b) b)) ≡ true
       kind_ok Subgraph = (decode_held b g e).subgraph
       kind_ok Translation = (decode_held b g e).translation
+
+  pub pair_within : (k : Kind) (i : ℕ) → i < pair_count k b
+      → (number b (table_at k b + pair_length * i) < name_count b) × (number b (table_at k b + pair_length * i + 2) < name_count b)
+  pair_within k i h =
+      let ps = pairs_at (pair_count k b) (drop (table_at k b) b) in
+      let l = length_rows_at pair_length (pair_count k b) (drop (table_at k b) b) in
+      let m = get_or_member (0, 0) ps i (omega arith) in
+      rw (get_or_rows_at pair_length (pair_count k b) (table_at k b) b i h) at (under_pair (name_count b) ps (get_or ps i (0, 0)) (pairs_placed k) m)

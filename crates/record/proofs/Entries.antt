@@ -8,11 +8,11 @@ use lib.ListN.{length, take, drop, get_or, length-append, length-drop, take-appe
 use lib.Seq.{take-add, take-append_seam, drop-append_seam, drop-drop, length-take-le}
 use lib.Dec.{leb, ltb, eqb}
 use borrow.Author.Tests.{eq-eqb, eqb-true, leb-true, le-leb, ltb-false, le-ltb}
+use Rattle.std.proofs.lemmas.Bool.{and_parts, or_parts}
 use Rattle.model.specs.Bytes.{Bytes}
 use Rattle.model.specs.Record.{any_long, bodies, max_name_bytes, max_bodies_bytes}
 use Rattle.model.specs.Numbers.{number}
 use Rattle.model.specs.Layout.{record_length, entry_length, entries}
-use Rattle.text.proofs.Tests.{both_true, either_false}
 use Rattle.record.specs.Test.{rows_at, entries_at, body_end, cut, Under}
 use Rattle.record.specs.Coded.{spans}
 use Rattle.record.proofs.Words.{AllBytes, whole, two_again, bytes_drop}
@@ -36,7 +36,7 @@ cut_spans start (n ∷ ns) r =
     rw (append_assoc n (bodies ns) r, take-append_seam n (bodies ns ++ r), drop-append_seam n (bodies ns ++ r), cut_spans (start + length n) ns r)
 
 short : (m : ℕ) (t : Bool) → ltb max_name_bytes m || t ≡ false → (m ≤ max_name_bytes) × (t ≡ false)
-short m t e = let (s, t) = either_false (ltb max_name_bytes m) t e in (ltb-false max_name_bytes m s, t)
+short m t e = let (s, t) = or_parts (ltb max_name_bytes m) t e in (ltb-false max_name_bytes m s, t)
 
 pub body_end_spans : (start : ℕ) (ns : List Bytes) → any_long ns ≡ false → body_end start (spans start ns) ≡ start + length (bodies ns)
 unfolding body_end spans
@@ -83,7 +83,7 @@ first_entry_lem : (e : ℕ × ℕ) (es : List (ℕ × ℕ)) (at : ℕ) → body_
 unfolding body_end
 first_entry_lem e es at h =
     let p = within (eqb e.0 at && leb e.1 max_name_bytes) (body_end (at + e.1) es) h in
-    let q = both_true (eqb e.0 at) (leb e.1 max_name_bytes) p.0 in
+    let q = and_parts (eqb e.0 at) (leb e.1 max_name_bytes) p.0 in
     (eqb-true e.0 at q.0, leb-true e.1 max_name_bytes q.1, p.1, rw p.0)
 
 at_most : (es : List (ℕ × ℕ)) (at : ℕ) → body_end at es ≤ max_bodies_bytes → at ≤ body_end at es

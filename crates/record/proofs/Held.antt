@@ -4,10 +4,10 @@ use mathlib.Core.Bool.{true}
 use Prim.Native.Nat.{◌+◌, ◌≤◌}
 use lib.ListN.{length, drop}
 use borrow.Author.Tests.{leb-true, le-leb, eqb-true, eq-eqb}
+use Rattle.std.proofs.lemmas.Bool.{and_parts}
 use Rattle.text.specs.Blocks.{all_zero}
 use Rattle.model.specs.Bytes.{Bytes, compare_bytes}
 use Rattle.model.specs.Record.{ascends, max_names, max_pairs, max_bodies_bytes}
-use Rattle.text.proofs.Tests.{both_true}
 use Rattle.record.specs.Test.{body_end, pairs_ok, is_used, every, entries_of, subgraph_of, translation_of, names_of, is_record}
 use Rattle.model.specs.Layout.{name_count, own_number, pair_count, record_length, bodies_at}
 use Rattle.model.specs.declared.Kind.TheVariants.{Subgraph, Translation}
@@ -28,16 +28,16 @@ pub record Held (b : Bytes) : Type 0 where
 pub held : (b : Bytes) → is_record b ≡ true → Held b
 unfolding is_record
 held b h =
-    let (long, more) = both_true _ _ h in
-    let (count, more) = both_true _ _ more in
-    let (own, more) = both_true _ _ more in
-    let (subgraphs, more) = both_true _ _ more in
-    let (translations, more) = both_true _ _ more in
-    let (row, more) = both_true _ _ more in
-    let (subgraph, more) = both_true _ _ more in
-    let (translation, more) = both_true _ _ more in
-    let (order, more) = both_true _ _ more in
-    let (used, rest) = both_true _ _ more in
+    let (long, more) = and_parts _ _ h in
+    let (count, more) = and_parts _ _ more in
+    let (own, more) = and_parts _ _ more in
+    let (subgraphs, more) = and_parts _ _ more in
+    let (translations, more) = and_parts _ _ more in
+    let (row, more) = and_parts _ _ more in
+    let (subgraph, more) = and_parts _ _ more in
+    let (translation, more) = and_parts _ _ more in
+    let (order, more) = and_parts _ _ more in
+    let (used, rest) = and_parts _ _ more in
     record {
       long = eqb-true _ _ long;
       count = leb-true _ _ count;

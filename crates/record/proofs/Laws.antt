@@ -4,6 +4,8 @@ use mathlib.Core.Path.{◌≡◌, refl, sym, ap, ◌∙◌}
 use mathlib.Core.Logic.{◌↔◌}
 use mathlib.Core.Bool.{Bool, true, false, cond, ◌&&◌, false≢true}
 use Rattle.std.specs.Prelude.{Option, Some, None}
+use Rattle.std.specs.Cmp.{both_ways}
+use Rattle.std.proofs.lemmas.Bool.{and_parts}
 use Prim.Native.Nat.{ℕ}
 use native.Mathlib.Omega.{arith}
 use lib.Dec.{eqb}
@@ -12,7 +14,6 @@ use Rattle.model.specs.Bytes.{Bytes, same_bytes}
 use Rattle.model.specs.Record.{GraphName, compare_pairs, ascends, judge, is_valid}
 use Rattle.model.specs.Layout.{encode, shown, decode}
 use Rattle.model.specs.Statements.{Valid, Encoded, Decoded}
-use Rattle.text.proofs.Tests.{both_true, same_tests}
 use Rattle.text.proofs.Order.{same_bytes_refl, same_bytes_true}
 use Rattle.text.proofs.Ascending.{ascends_true}
 use Rattle.record.specs.Test.{is_record}
@@ -29,8 +30,8 @@ pub is_valid_true : (g : GraphName) → is_valid g ≡ true ↔ Valid g
 unfolding is_valid
 is_valid_true g = (
   λ e.
-      let p = both_true (ascends compare_pairs g.subgraph && ascends compare_pairs g.translation) (eqb (judge g) 0) e in
-      let q = both_true (ascends compare_pairs g.subgraph) (ascends compare_pairs g.translation) p.0 in
+      let p = and_parts (ascends compare_pairs g.subgraph && ascends compare_pairs g.translation) (eqb (judge g) 0) e in
+      let q = and_parts (ascends compare_pairs g.subgraph) (ascends compare_pairs g.translation) p.0 in
       record {
         subgraphs = (ascends_true compare_pairs g.subgraph).0 q.0;
         translations = (ascends_true compare_pairs g.translation).0 q.1;
@@ -76,7 +77,7 @@ decode_shown b g e = (decode_passes b g e).1
 pub decoded : Decoded
 decoded b g e =
     let (t, s) = decode_passes b g e in
-    let p = both_true (is_valid (shown b)) (same_bytes (encode (shown b)) b) t in
+    let p = and_parts (is_valid (shown b)) (same_bytes (encode (shown b)) b) t in
     (rw s at ((is_valid_true (shown b)).0 p.0), sym (rw s at ((same_bytes_true (encode (shown b)) b).0 p.1)))
 
 -- ------------------------------------------------------------------ the test
@@ -92,7 +93,7 @@ pub decode_held : (b : Bytes) (g : GraphName) → decode b ≡ Some g → Held b
 decode_held b g e = let p = decoded b g e in rw p.1 (encode_held g p.0)
 
 pub is_record_lem : (b : Bytes) → AllBytes b → is_record b ≡ is_some (decode b)
-is_record_lem b a = same_tests (is_record b) (is_some (decode b)) (λ e. rw (held_decode b a (held b e))) (λ e. held_record b (go (decode b) refl e))
+is_record_lem b a = both_ways (is_record b) (is_some (decode b)) (λ e. rw (held_decode b a (held b e))) (λ e. held_record b (go (decode b) refl e))
   where
     go : (o : Option GraphName) → decode b ≡ o → is_some o ≡ true → Held b
     go None d e = absurd (false≢true e)

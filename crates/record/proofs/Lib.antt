@@ -21,3 +21,4 @@ pub mod Empty
 pub mod Refusals
 pub mod Parts
 pub mod Meaning
+pub mod Listing

@@ -9,16 +9,16 @@ use Rattle.model.specs.declared.Kind.{Kind}
 use Rattle.model.specs.declared.Kind.TheVariants.{Subgraph, Translation}
 use Rattle.model.specs.declared.holdings.Part.{Part}
 use Rattle.model.specs.Bytes.{Bytes}
-use Rattle.model.specs.Record.{GraphName, names}
+use Rattle.model.specs.Record.{GraphName, names, max_names, max_pairs}
 use Rattle.model.specs.Layout.{decode, pair_length, entry_length, entry_at, name_count, own_number, pair_count, table_at, from_place, to_place, shown}
 use Rattle.model.specs.Opening.{is_some}
 use Rattle.model.specs.Questions.{mapped, part_of, pair_parts, pairs_of}
 use Rattle.record.specs.Reader.{place_numbered, counted_pairs, IsPart}
 use Rattle.record.specs.declared.layout.Head.{Head}
-use Rattle.record.specs.Holds.{HoldsRecord, IsReader}
+use Rattle.record.specs.Holds.{HoldsRecord, IsReader, IsOwnPlace}
 use Rattle.record.proofs.Own.{own_shown, number_placed}
 use Rattle.record.proofs.Opening.{IsRecord, is_record_lem}
-use Rattle.record.proofs.Access.{record_count, record_pair_count, pair_within}
+use Rattle.record.proofs.Access.{record_count, record_pair_count, record_name, pair_within}
 use Rattle.record.proofs.Parts.{entry_part, name_in_lem, name_out, own_in_lem, pair_in, pair_out}
 
 -- ------------------------------------------------------------------ the test
@@ -50,7 +50,23 @@ module _ (b : Bytes) (h : Head) (reader : IsReader b h) where
   pub pairs_counted : (k : Kind) → counted_pairs h k ≡ length (pairs_of k (shown b))
   pairs_counted k = pairs_head k ∙ sym (record_pair_count b (shown b) reader.holds.decoded k)
 
+  -- the counts are within the sizes
+  pub names_most : h.names ≤ max_names
+  names_most = omega (arith, reader.head.names.0, reader.holds.count)
+
+  pub pairs_most : (k : Kind) → counted_pairs h k ≤ max_pairs
+  pairs_most Subgraph = omega (arith, reader.head.subgraph.0, reader.holds.subgraphs)
+  pairs_most Translation = omega (arith, reader.head.translation.0, reader.holds.translations)
+
 module _ (b : Bytes) (r : HoldsRecord b) where
+  -- the own place is that of the own name
+  pub own_placed : (o : Option ℕ) → o ≡ place_numbered (own_number b) → IsOwnPlace (shown b) o
+  own_placed None e = own_shown b ∙ rw (← e)
+  own_placed (Some p) e =
+      let n = number_placed (own_number b) p (rw (← e)) in
+      let l : p < name_count b = omega (arith, n, r.own) in
+      (omega (arith, l, record_count b (shown b) r.decoded), own_shown b ∙ rw (← e, record_name b (shown b) r.decoded p l))
+
   pub own_part_absent : place_numbered (own_number b) ≡ None → None ≡ mapped (part_of (shown b)) (shown b).name
   own_part_absent e = rw (own_shown b, e)
 

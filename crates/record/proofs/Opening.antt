@@ -4,6 +4,7 @@ use mathlib.Core.Path.{◌≡◌, refl, sym, ap, ap₂, ◌∙◌}
 use mathlib.Core.Logic.{◌≢◌}
 use mathlib.Core.Bool.{Bool, true, false, cond, ◌&&◌}
 use Rattle.std.specs.Prelude.{Option, Some, None, Ok, Err}
+use Rattle.std.proofs.lemmas.Bool.{and_parts}
 use lib.ListN.{length}
 use Rattle.model.specs.declared.fault.Fault.{Fault}
 use Rattle.model.specs.declared.fault.Fault.TheVariants.{WrongBuffer, NotARecord}
@@ -13,7 +14,6 @@ use Rattle.model.specs.Record.{GraphName}
 use Rattle.model.specs.Layout.{record_length, shown, decode}
 use Rattle.model.specs.Opening.{Given, settled, both_given, or_refuse, is_some, Buffer, followed_by, opened, has_size, record_in, overwritten, two_records, check_of, check_of_both}
 use Rattle.model.specs.Questions.{asked, asked_both}
-use Rattle.text.proofs.Tests.{both_true}
 use Rattle.record.proofs.Held.{Held}
 use Rattle.record.proofs.Laws.{decode_held, decode_shown}
 
@@ -49,7 +49,7 @@ opened_reads x z = go x.sized x.reading refl refl z
 
 module _ {A B : Type 0} (x : Buffer A) (y : Buffer B) where
   pub reads_both : (a : A) (b : B) → ReadAs (followed_by x y) (a, b) → ReadAs x a × ReadAs y b
-  reads_both a b r = let s = both_true x.sized y.sized r.sized in go x.reading y.reading refl refl s r.reading
+  reads_both a b r = let s = and_parts x.sized y.sized r.sized in go x.reading y.reading refl refl s r.reading
     where
       go : (g : Given A) (h : Given B) → x.reading ≡ g → y.reading ≡ h → (x.sized ≡ true) × (y.sized ≡ true)
           → both_given g h ≡ Ok (a, b) → ReadAs x a × ReadAs y b

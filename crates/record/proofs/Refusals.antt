@@ -6,10 +6,11 @@ use Prim.Native.Nat.{ℕ, ◌+◌, ◌≤◌, ◌<◌}
 use native.Mathlib.Omega.{arith}
 use lib.ListN.{length, drop}
 use borrow.Author.Tests.{le-leb, leb-true}
+use Rattle.std.specs.Cmp.{both_ways}
+use Rattle.std.proofs.lemmas.Bool.{and_parts}
 use Rattle.model.specs.Record.{max_names, max_pairs, max_bodies_bytes}
 use Rattle.text.specs.Blocks.{all_zero}
 use Rattle.model.specs.Bytes.{Bytes}
-use Rattle.text.proofs.Tests.{both_true, same_tests}
 use Rattle.record.specs.Test.{entries_at, pairs_at, Under, body_end, pairs_ok, counts_ok, tables_ok, is_record}
 use Rattle.record.proofs.TestLaws.{pairs_ok_true}
 use Rattle.record.specs.Reader.{IsHead}
@@ -33,9 +34,9 @@ pub record Counted (n o s t : ℕ) : Type 0 where
 
 pub counted : (n own s t : ℕ) → counts_ok n own s t ≡ true → Counted n own s t
 counted n own s t e =
-    let p = both_true _ _ e in
-    let q = both_true _ _ p.1 in
-    let r = both_true _ _ q.1 in
+    let p = and_parts _ _ e in
+    let q = and_parts _ _ p.1 in
+    let r = and_parts _ _ q.1 in
     record { names = leb-true _ _ p.0; own = leb-true _ _ q.0; subgraphs = leb-true _ _ r.0; translations = leb-true _ _ r.1 }
 
 pub pairs_under : (n : ℕ) (b : Bytes) (left p : ℕ) → pairs_ok n (pairs_at left (drop p b)) ≡ true → Under n (pairs_at left (drop p b))
@@ -91,10 +92,10 @@ module _ (b : Bytes) (h : Head) (k : IsHead b h) where
   unfolding tables_ok
   zeros_decide l c r w =
       let m = counted n own s t c in
-      let p = both_true _ _ w in
-      let q = both_true _ _ p.1 in
-      let u = both_true _ _ q.1 in
-      same_tests _ (is_record b) (λ z. held_record b (record {
+      let p = and_parts _ _ w in
+      let q = and_parts _ _ p.1 in
+      let u = and_parts _ _ q.1 in
+      both_ways _ (is_record b) (λ z. held_record b (record {
         long = l;
         count = rw (← en) m.names;
         own = rw (← eo, ← en) m.own;

@@ -1,13 +1,17 @@
--- The sizes that a graph name is judged by, each by name.
-use mathlib.Core.Path.{◌≡◌, refl}
+-- The sizes that a graph name is judged by, each by name; and names that are all short.
+use mathlib.Core.Path.{◌≡◌, refl, ap}
+use mathlib.Core.Logic.{◌↔◌, ⊎_elim}
 use mathlib.Core.Bool.{Bool, true, false, cond}
+use mathlib.Core.List.Memᴰ
+use mathlib.Core.List.{List, [], ◌∷◌, Memᴰ}
 use Prim.Native.Nat.{ℕ, ◌≤◌, ◌<◌}
 use native.Mathlib.Omega.{arith}
 use lib.ListN.{length}
-use lib.Dec.{lit<}
+use lib.Dec.{lit<, ltb}
 use borrow.Author.Tests.{ltb-false, le-ltb}
-use Rattle.model.specs.Record.{GraphName, names, any_long, bodies, judge, max_names, max_pairs, max_bodies_bytes}
-use Rattle.text.proofs.Tests.{either_false}
+use Rattle.std.proofs.lemmas.Bool.{or_parts}
+use Rattle.model.specs.Bytes.{Bytes}
+use Rattle.model.specs.Record.{GraphName, names, any_long, bodies, judge, max_name_bytes, max_names, max_pairs, max_bodies_bytes}
 
 pub record Sizes (g : GraphName) : Type 0 where
   pub short : any_long (names g) ≡ false
@@ -28,7 +32,7 @@ judge_sizes g e =
     let (count, more) = second 12 _ _ (lit< tt) more in
     let (pairs, more) = second 13 _ _ (lit< tt) more in
     let (room, more) = second 14 _ _ (lit< tt) more in
-    let (subgraphs, translations) = either_false _ _ pairs in
+    let (subgraphs, translations) = or_parts _ _ pairs in
     record {
       short = short;
       count = ltb-false max_names (length (names g)) count;
@@ -47,3 +51,12 @@ sizes_judge g s =
       le-ltb max_pairs (length g.translation) s.translations,
       le-ltb max_bodies_bytes (length (bodies (names g))) s.room,
     )
+
+pub short_names : (ns : List Bytes) → any_long ns ≡ false ↔ ((n : Bytes) → Memᴰ n ns → length n ≤ max_name_bytes)
+short_names [] = (λ e n m. absurd (Memᴰ.not-nil m), λ h. refl)
+short_names (x ∷ xs) = (
+  λ e n m.
+      let p : (ltb max_name_bytes (length x) ≡ false) × (any_long xs ≡ false) = or_parts _ _ e in
+      ⊎_elim (λ (d : n ≡ x). omega (arith, ltb-false max_name_bytes (length x) p.0, ap length d)) ((short_names xs).0 p.1 n) (Memᴰ.cases_cons m),
+  λ h. rw (le-ltb max_name_bytes (length x) (h x (Memᴰ.head refl)), (short_names xs).1 (λ n m. h n (Memᴰ.tail m))),
+)

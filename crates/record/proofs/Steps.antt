@@ -1,115 +1,120 @@
--- The loops that test a record, one law for each way through a turn.
+-- The loops that test a record, one law for each way through a turn, with the rows still to come.
 use mathlib.Core.Path.{◌≡◌, refl}
-use mathlib.Core.Bool.{Bool, true, cond, ◌&&◌}
+use mathlib.Core.Bool.{Bool, true, false, ◌&&◌}
 use mathlib.Core.List.{List, [], ◌∷◌}
-use Prim.Native.Nat.{ℕ, zero, suc, ◌+◌, ◌-◌, ◌≤◌, ◌<◌}
-use native.Mathlib.Omega.{arith}
+use Prim.Native.Nat.{ℕ, ◌+◌, ◌≤◌, ◌<◌}
 use native.Mathlib.Numerals.{add-one}
-use lib.Dec.{ltb, eqb}
+use native.Mathlib.Omega.{arith}
+use lib.Dec.{ltb}
+use Rattle.std.specs.Prelude.{Some, None}
 use lib.ListN.{take, drop, set}
 use lib.Seq.{drop-drop}
 use borrow.Author.Tests.{eq-eqb, ne_eqb, le-leb, lt-leb}
 use Rattle.model.specs.Bytes.{Bytes, compare_bytes}
-use Rattle.model.specs.Numbers.{number}
-use Rattle.model.specs.Record.{ascends, max_name_bytes}
-use Rattle.record.specs.Test.{rows_at, entries_at, pairs_at, Under, body_end, cut, is_less, pair_less, pair_ok, pairs_ok, every, marks}
-use Rattle.record.proofs.Words.{rows_at_step}
-use Rattle.model.specs.Layout.{entry_length, pair_length, record_length}
-
--- with rows left, the first of them and one fewer
-rows_more : (w left p : ℕ) (b : Bytes) → 0 < left → rows_at w left (drop p b) ≡ (number b p, number b (p + 2)) ∷ rows_at w (left - 1) (drop (p + w) b)
-rows_more w zero p b h = absurd (omega arith)
-rows_more w (suc k) p b h = let e : suc k - 1 ≡ k = omega arith in rw e (rows_at_step w k p b)
-
-rows_none : (w left p : ℕ) (b : Bytes) → left ≤ 0 → rows_at w left (drop p b) ≡ []
-unfolding rows_at
-rows_none w zero p b h = refl
-rows_none w (suc k) p b h = absurd (omega arith)
+use Rattle.model.specs.Record.{ascends, max_name_bytes, max_bodies_bytes}
+use Rattle.record.specs.Test.{Under, body_end, end_within, cut, is_less, pair_less, pairs_ok, every, marks}
+use Rattle.model.specs.Layout.{record_length}
 
 -- ------------------------------------------------------------------ the entries
 
-module _ (at left p : ℕ) (b : Bytes) where
-  pub body_end_end : left ≤ 0 → body_end at (entries_at left (drop p b)) ≡ at
+module _ {rows rest : List (ℕ × ℕ)} {x y : ℕ} (e : rows ≡ (x, y) ∷ rest) (at : ℕ) where
+  pub body_end_gap : (x ≡ at → ⊥) → body_end at rows ≡ record_length
   unfolding body_end
-  body_end_end h = rw (rows_none entry_length left p b h)
+  body_end_gap n = rw (e, ne_eqb x at n)
 
-  module _ (h : 0 < left) where
-    pub body_end_gap : (number b p ≡ at → ⊥) → body_end at (entries_at left (drop p b)) ≡ record_length
-    unfolding body_end
-    body_end_gap e = rw (rows_more entry_length left p b h, ne_eqb (number b p) at e)
+  pub body_end_long : x ≡ at → max_name_bytes < y → body_end at rows ≡ record_length
+  unfolding body_end
+  body_end_long h l = rw (e, eq-eqb x at h, lt-leb y max_name_bytes l)
 
-    pub body_end_long : number b p ≡ at → max_name_bytes < number b (p + 2) → body_end at (entries_at left (drop p b)) ≡ record_length
-    unfolding body_end
-    body_end_long e l = rw (rows_more entry_length left p b h, eq-eqb (number b p) at e, lt-leb (number b (p + 2)) max_name_bytes l)
+  pub body_end_more : x ≡ at → y ≤ max_name_bytes → body_end at rows ≡ body_end (at + y) rest
+  unfolding body_end
+  body_end_more h l = rw (e, eq-eqb x at h, le-leb y max_name_bytes l)
 
-    pub body_end_more : number b p ≡ at → number b (p + 2) ≤ max_name_bytes
-        → body_end at (entries_at left (drop p b)) ≡ body_end (at + number b (p + 2)) (entries_at (left - 1) (drop (p + entry_length) b))
-    unfolding body_end
-    body_end_more e l = rw (rows_more entry_length left p b h, eq-eqb (number b p) at e, le-leb (number b (p + 2)) max_name_bytes l)
+pub body_end_none : {rows : List (ℕ × ℕ)} → rows ≡ [] → (at : ℕ) → body_end at rows ≡ at
+unfolding body_end
+body_end_none e at = rw e
+
+pub end_past : {end : ℕ} → max_bodies_bytes < end → end_within end ≡ None
+unfolding end_within
+end_past {end} h = rw (lt-leb end max_bodies_bytes h)
+
+pub end_kept : {end : ℕ} → end ≤ max_bodies_bytes → end_within end ≡ Some end
+unfolding end_within
+end_kept {end} h = rw (le-leb end max_bodies_bytes h)
+
+-- and back: what an end that was judged says of it
+pub was_past : (end : ℕ) → end_within end ≡ None → max_bodies_bytes < end
+unfolding end_within
+was_past end e = grind arith
+
+pub was_kept : (end : ℕ) {x : ℕ} → end_within end ≡ Some x → (end ≤ max_bodies_bytes) × (x ≡ end)
+unfolding end_within
+was_kept end e = grind arith
 
 -- ------------------------------------------------------------------ the pairs
 
-module _ (n left at : ℕ) (b : Bytes) where
-  -- what the code tests of the first pair
-  pub pair_ok_at : 0 < left → pair_ok n (pairs_at left (drop at b))
-      ≡ (ltb (number b at) n && (ltb (number b (at + 2)) n
-      && cond (eqb left 1) true (pair_less (number b at) (number b (at + 2)) (number b (at + pair_length)) (number b (at + pair_length + 2)))))
-  pair_ok_at h = go left refl
+pub pairs_ok_none : {rows : List (ℕ × ℕ)} → rows ≡ [] → (n : ℕ) → pairs_ok n rows ≡ true
+unfolding pairs_ok
+pairs_ok_none e n = rw e
+
+module _ (n : ℕ) (p : ℕ × ℕ) where
+  -- the last pair is in order if it is of places below n
+  pub pairs_ok_last : {rows : List (ℕ × ℕ)} → rows ≡ [] → pairs_ok n (p ∷ rows) ≡ (ltb p.0 n && ltb p.1 n)
+  unfolding pairs_ok
+  pairs_ok_last e = rw e (go (ltb p.0 n) (ltb p.1 n))
     where
-      go : (k : ℕ) → left ≡ k → pair_ok n (pairs_at left (drop at b))
-          ≡ (ltb (number b at) n && (ltb (number b (at + 2)) n
-          && cond (eqb left 1) true (pair_less (number b at) (number b (at + 2)) (number b (at + pair_length)) (number b (at + pair_length + 2)))))
-      go zero e = absurd (omega arith)
-      go (suc zero) e = rw (rows_more pair_length left at b h, rows_none pair_length (left - 1) (at + pair_length) b (omega arith), eq-eqb left 1 e)
-      go (suc (suc k)) e =
-          rw (rows_more pair_length left at b h, rows_more pair_length (left - 1) (at + pair_length) b (omega arith), ne_eqb left 1 (λ q. omega arith))
+      go : (s t : Bool) → ((s && (t && true)) && true) ≡ (s && t)
+      go true true = refl
+      go true false = refl
+      go false t = refl
 
-  pub pairs_ok_end : left ≤ 0 → pairs_ok n (pairs_at left (drop at b)) ≡ true
-  unfolding pairs_ok
-  pairs_ok_end h = rw (rows_none pair_length left at b h)
-
-  pub pairs_ok_more : 0 < left → pairs_ok n (pairs_at left (drop at b)) ≡ (pair_ok n (pairs_at left (drop at b)) && pairs_ok n (pairs_at (left - 1) (drop (at + pair_length) b)))
-  unfolding pairs_ok
-  pairs_ok_more h = rw (rows_more pair_length left at b h)
+  module _ {rows rest : List (ℕ × ℕ)} {q : ℕ × ℕ} (e : rows ≡ q ∷ rest) where
+    pub pairs_ok_more : pairs_ok n (p ∷ rows) ≡ ((ltb p.0 n && ltb p.1 n) && (pair_less p.0 p.1 q.0 q.1 && pairs_ok n (q ∷ rest)))
+    unfolding pairs_ok
+    pairs_ok_more = rw e (go (ltb p.0 n) (ltb p.1 n) (pair_less p.0 p.1 q.0 q.1) (pairs_ok n (q ∷ rest)))
+      where
+        go : (s t u v : Bool) → ((s && (t && u)) && v) ≡ ((s && t) && (u && v))
+        go true true u v = refl
+        go true false u v = refl
+        go false t u v = refl
 
 -- ------------------------------------------------------------------ the names
 
--- the names left, whose entries stand at p and bodies at q
-abbrev pub names_left : ℕ → ℕ → ℕ → Bytes → List Bytes
-names_left left p q b = cut (entries_at left (drop p b)) (drop q b)
-
-names_more : (left p q : ℕ) (b : Bytes) → 0 < left → names_left left p q b ≡ take (number b (p + 2)) (drop q b) ∷ names_left (left - 1) (p + entry_length) (q + number b (p + 2)) b
+pub cut_more : {rows rest : List (ℕ × ℕ)} {x y : ℕ} → rows ≡ (x, y) ∷ rest → (at : ℕ) (b : Bytes) → cut rows (drop at b) ≡ take y (drop at b) ∷ cut rest (drop (at + y) b)
 unfolding cut
-names_more left p q b h = rw (rows_more entry_length left p b h, drop-drop)
+cut_more e at b = rw (e, drop-drop)
 
-pub ascends_few : (left p q : ℕ) (b : Bytes) → left ≤ 1 → ascends compare_bytes (names_left left p q b) ≡ true
-unfolding ascends cut rows_at
-ascends_few zero p q b h = refl
-ascends_few (suc zero) p q b h = refl
-ascends_few (suc (suc k)) p q b h = absurd (omega arith)
+pub ascends_none : {rows : List (ℕ × ℕ)} → rows ≡ [] → (b : Bytes) → ascends compare_bytes (cut rows b) ≡ true
+unfolding ascends cut
+ascends_none e b = rw e
 
-pub ascends_more : (left p q : ℕ) (b : Bytes) → 1 < left → ascends compare_bytes (names_left left p q b)
-    ≡ (is_less (compare_bytes (take (number b (p + 2)) (drop q b)) (take (number b (p + entry_length + 2)) (drop (q + number b (p + 2)) b)))
-    && ascends compare_bytes (names_left (left - 1) (p + entry_length) (q + number b (p + 2)) b))
-unfolding ascends
-ascends_more left p q b h =
-    rw (names_more left p q b (omega arith), names_more (left - 1) (p + entry_length) (q + number b (p + 2)) b (omega arith))
+module _ (at size : ℕ) (b : Bytes) where
+  -- the last name is in order
+  pub ascends_last : {rows : List (ℕ × ℕ)} → rows ≡ [] → ascends compare_bytes (take size (drop at b) ∷ cut rows (drop (at + size) b)) ≡ true
+  unfolding ascends cut
+  ascends_last e = rw e
+
+  module _ {rows rest : List (ℕ × ℕ)} {x y : ℕ} (e : rows ≡ (x, y) ∷ rest) where
+    pub ascends_more : ascends compare_bytes (take size (drop at b) ∷ cut rows (drop (at + size) b))
+        ≡ (is_less (compare_bytes (take size (drop at b)) (take y (drop (at + size) b)))
+        && ascends compare_bytes (take y (drop (at + size) b) ∷ cut rest (drop (at + size + y) b)))
+    unfolding ascends cut
+    ascends_more = rw (e, drop-drop)
 
 -- ------------------------------------------------------------------ the marks
 
-pub marks_end : (left p : ℕ) (b m : Bytes) → left ≤ 0 → marks (pairs_at left (drop p b)) m ≡ m
-unfolding marks
-marks_end left p b m h = rw (rows_none pair_length left p b h)
+module _ {rows rest : List (ℕ × ℕ)} {x y : ℕ} (e : rows ≡ (x, y) ∷ rest) where
+  pub marks_more : (m : Bytes) → marks rows m ≡ marks rest (set (set m x 1) y 1)
+  unfolding marks
+  marks_more m = rw e
 
-pub marks_more : (left p : ℕ) (b m : Bytes) → 0 < left
-    → marks (pairs_at left (drop p b)) m ≡ marks (pairs_at (left - 1) (drop (p + pair_length) b)) (set (set m (number b p) 1) (number b (p + 2)) 1)
-unfolding marks
-marks_more left p b m h = rw (rows_more pair_length left p b h)
+  pub under_more : (n : ℕ) → Under n rows → (x < n) × (y < n) × Under n rest
+  unfolding Under
+  under_more n u = rw e at u
 
-pub under_more : (n left p : ℕ) (b : Bytes) → 0 < left → Under n (pairs_at left (drop p b))
-    → (number b p < n) × (number b (p + 2) < n) × Under n (pairs_at (left - 1) (drop (p + pair_length) b))
-unfolding Under
-under_more n left p b h u = rw (rows_more pair_length left p b h) at u
+pub marks_none : {rows : List (ℕ × ℕ)} → rows ≡ [] → (m : Bytes) → marks rows m ≡ m
+unfolding marks
+marks_none e m = rw e
 
 pub every_none : (f : ℕ → Bool) → every f 0 ≡ true
 unfolding every

@@ -10,9 +10,10 @@ use native.Mathlib.Omega.{arith}
 use lib.Dec.{ltb, eqb}
 use borrow.Author.Tests.{ltb-true, ltb-false, lt-ltb, eqb-true, eq-eqb}
 use Rattle.std.specs.declared.cmp.Ordering.TheVariants.{Less, Equal, Greater}
+use Rattle.std.proofs.lemmas.Bool.{and_parts}
+use Rattle.std.proofs.lemmas.Bool.Decides.{Decides-or}
 use Rattle.model.specs.Bytes.{by_order, then_by, compare_numbers}
 use Rattle.model.specs.Record.{ascends}
-use Rattle.text.proofs.Tests.{both_true, either_iff}
 use Rattle.text.proofs.Places.{member_cons, member_append}
 use Rattle.record.specs.Test.{pair_less, pairs_ok, has_place, is_used, every, Under}
 use Rattle.record.proofs.Places.{flat, compare_places}
@@ -35,21 +36,21 @@ unfolding pairs_ok Under ascends
 pairs_ok_true n [] = (λ e. (tt, refl), λ u. refl)
 pairs_ok_true n (p ∷ []) = (
   λ e.
-      let a = both_true _ _ e in
-      let b = both_true (ltb p.0 n) _ a.0 in
-      let c = both_true (ltb p.1 n) _ b.1 in
+      let a = and_parts _ _ e in
+      let b = and_parts (ltb p.0 n) _ a.0 in
+      let c = and_parts (ltb p.1 n) _ b.1 in
       ((ltb-true p.0 n b.0, ltb-true p.1 n c.0, tt), refl),
   λ u. rw (lt-ltb p.0 n u.0.0, lt-ltb p.1 n u.0.1),
 )
 pairs_ok_true n (p ∷ q ∷ qs) = (
   λ e.
-      let a = both_true _ _ e in
-      let b = both_true (ltb p.0 n) _ a.0 in
-      let c = both_true (ltb p.1 n) _ b.1 in
+      let a = and_parts _ _ e in
+      let b = and_parts (ltb p.0 n) _ a.0 in
+      let c = and_parts (ltb p.1 n) _ b.1 in
       let r = (pairs_ok_true n (q ∷ qs)).0 a.1 in
       ((ltb-true p.0 n b.0, ltb-true p.1 n c.0, r.0), rw (← pair_less_order p q, c.1) r.1),
   λ u.
-      let a = both_true (by_order (compare_places p q) true false false) (ascends compare_places (q ∷ qs)) u.1 in
+      let a = and_parts (by_order (compare_places p q) true false false) (ascends compare_places (q ∷ qs)) u.1 in
       rw (lt-ltb p.0 n u.0.0, lt-ltb p.1 n u.0.1, pair_less_order p q, a.0) ((pairs_ok_true n (q ∷ qs)).1 (u.0.2, a.1)),
 )
 
@@ -67,7 +68,7 @@ unfolding every
 every_true f zero = (λ e i h. absurd (omega arith), λ h. refl)
 every_true f (suc n) = (
   λ e i h.
-      let p = both_true (every f n) (f n) e in
+      let p = and_parts (every f n) (f n) e in
       ⊎_elim (λ (k : i < n). (every_true f n).0 p.0 i k) (λ (k : i ≡ n). rw k p.1) (below_suc i n h),
   λ h. rw ((every_true f n).1 (λ i k. h i (omega arith))) (h n (omega arith)),
 )
@@ -78,7 +79,7 @@ has_place_true i [] = (λ e. absurd (false≢true e), λ m. absurd (Memᴰ.not-n
 has_place_true i (p ∷ ps) = cons p.0 _ _ (cons p.1 _ _ (has_place_true i ps))
   where
     cons : (j : ℕ) (t : Bool) (l : List ℕ) → (t ≡ true ↔ Memᴰ i l) → eqb j i || t ≡ true ↔ Memᴰ i (j ∷ l)
-    cons j t l h = Iff.trans (either_iff (eqb j i) t (λ e. sym (eqb-true j i e), λ e. eq-eqb j i (sym e)) h) (member_cons i j l)
+    cons j t l h = Iff.trans (Decides-or (eqb j i) t (λ e. sym (eqb-true j i e), λ e. eq-eqb j i (sym e)) h) (member_cons i j l)
 
 -- the own place, where there is one
 abbrev pub own_places : ℕ → List ℕ
@@ -100,4 +101,4 @@ is_used_true own ps qs i = append (append (own_place own) (has_place_true i ps))
     )
 
     append : {s t : Bool} {l k : List ℕ} → (s ≡ true ↔ Memᴰ i l) → (t ≡ true ↔ Memᴰ i k) → s || t ≡ true ↔ Memᴰ i (l ++ k)
-    append {s} {t} {l} {k} f g = Iff.trans (either_iff s t f g) (member_append i l k)
+    append {s} {t} {l} {k} f g = Iff.trans (Decides-or s t f g) (member_append i l k)

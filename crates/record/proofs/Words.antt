@@ -2,7 +2,7 @@
 -- any width.
 use mathlib.Core.Path.{◌≡◌, refl, ap}
 use mathlib.Core.List.{List, [], ◌∷◌, ◌++◌}
-use Prim.Native.Nat.{ℕ, zero, suc, ◌+◌, ◌*◌, ◌/◌, ◌%◌, ◌≤◌, ◌<◌}
+use Prim.Native.Nat.{ℕ, zero, suc, ◌+◌, ◌-◌, ◌*◌, ◌/◌, ◌%◌, ◌≤◌, ◌<◌}
 use native.Mathlib.Omega.{arith}
 use native.Mathlib.Nat.{add-zero, mul-zero, mul-suc}
 use lib.ListN.{length, take, drop, get_or, length-drop}
@@ -77,6 +77,27 @@ unfolding rows_at
 rows_at_step w n at b =
     let e : at + 2 + 1 ≡ at + 3 = omega arith in
     simp (get_or-drop, drop-drop, add-zero, e)
+
+-- rows read one by one: none is left, or the first and one fewer
+module _ (w at count : ℕ) (b : Bytes) where
+  pub rows_none : count ≡ 0 → rows_at w count (drop at b) ≡ []
+  unfolding rows_at
+  rows_none z = rw z
+
+  pub rows_first : (count ≡ 0 → ⊥) → (x y : ℕ) → x ≡ number b at → y ≡ number b (at + 2)
+      → rows_at w count (drop at b) ≡ (x, y) ∷ rows_at w (count - 1) (drop (at + w) b)
+  rows_first n x y e f = rw (e, f) (go count n)
+    where
+      go : (k : ℕ) → (k ≡ 0 → ⊥) → rows_at w k (drop at b) ≡ (number b at, number b (at + 2)) ∷ rows_at w (k - 1) (drop (at + w) b)
+      go zero n = absurd (n refl)
+      go (suc k) n = let d : suc k - 1 ≡ k = omega arith in rw d (rows_at_step w k at b)
+
+pub ruleset read = (rows_none, rows_first)
+
+pub under_rows : (w n : ℕ) (b : Bytes) → AllBytes b → Under 65536 (rows_at w n b)
+unfolding rows_at Under
+under_rows w zero b h = tt
+under_rows w (suc n) b h = (omega (arith, h 0, h 1), omega (arith, h 2, h 3), under_rows w n (drop w b) (bytes_drop w b h))
 
 pub get_or_rows_at : (w n at : ℕ) (b : Bytes) (i : ℕ) → i < n
     → get_or (rows_at w n (drop at b)) i (0, 0) ≡ (number b (at + w * i), number b (at + w * i + 2))

@@ -3,3 +3,5 @@ pub mod Test
 pub mod Coded
 pub mod Reader
 pub mod Holds
+pub mod Rows
+pub mod Pairs

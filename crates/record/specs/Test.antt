@@ -1,6 +1,6 @@
 -- The test of a buffer, part by part: what the check of a record goes through, in its order. That the whole says what `decode` says is
 -- a law.
-use Rattle.std.specs.Prelude.{Bool, true, false, cond, ◌&&◌, ◌||◌, List, [], ◌∷◌, ℕ, zero, suc, ◌+◌, ◌*◌, ◌<◌, length, take, drop, set, get_or, leb, ltb, eqb}
+use Rattle.std.specs.Prelude.{Bool, true, false, cond, ◌&&◌, ◌||◌, List, [], ◌∷◌, ℕ, zero, suc, ◌+◌, ◌*◌, ◌<◌, length, take, drop, set, get_or, leb, ltb, eqb, Option, Some, None}
 use Rattle.text.specs.Blocks.{all_zero}
 use Rattle.model.specs.declared.Kind.TheVariants.{Subgraph, Translation}
 use Rattle.std.specs.declared.cmp.Ordering.{Ordering}
@@ -31,6 +31,10 @@ Under n (p ∷ ps) = (p.0 < n) × (p.1 < n) × Under n ps
 unfoldable pub body_end : ℕ → List (ℕ × ℕ) → ℕ
 body_end at [] = at
 body_end at (e ∷ es) = cond (eqb e.0 at && leb e.1 max_name_bytes) (body_end (at + e.1) es) record_length
+
+-- the end of bodies, if it is within the most bytes that they take; a record's length is not
+unfoldable pub end_within : ℕ → Option ℕ
+end_within end = cond (leb end max_bodies_bytes) (Some end) None
 
 -- the names, cut off the front of the bodies by their lengths
 unfoldable pub cut : List (ℕ × ℕ) → Bytes → List Bytes

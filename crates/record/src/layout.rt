@@ -1,10 +1,10 @@
-// What a record counts, and where things stand in it: the bodies, a name, the pairs of a kind. Each function asks that what it reads lies
-// within the slice.
-ghost use Rattle.std.specs.Prelude.{◌≡◌, ◌+◌, ◌*◌, ◌≤◌, ◌<◌, length};
+// What a record counts, and where things stand in it: the bodies, a name, the pairs of a kind. A rule of the project has the
+// reader stand above functions on slice and numbers, so each asks that what it reads lies within the slice.
+ghost use Rattle.std.specs.Prelude.{IfSome, ◌≡◌, ◌+◌, ◌*◌, ◌≤◌, ◌<◌, length};
 ghost use Rattle.model.specs.declared.Kind.TheVariants.{Subgraph, Translation};
 ghost use Rattle.model.specs.Layout.{counts_length, entry_length, pair_length, entry_at, name_count, own_number, pair_count, body_start, body_length, table_at, bodies_at, from_place, to_place, name_at, shown};
 ghost use Rattle.std.specs.Option.{option_copied};
-ghost use Rattle.record.specs.Reader.{place_numbered, counted_pairs, IsHead, IsPart};
+ghost use Rattle.record.specs.Reader.{place_numbered, counted_pairs, IsCount, IsHead, IsPart};
 
 use crate::offsets::{PAIR_LENGTH, bodies_after, entry_at};
 use model::{Kind, Part};
@@ -12,7 +12,7 @@ use text::read16;
 
 // The numbers that a record begins with: how many names; the own name, by its place counted from 1, or 0 for none; how many pairs of each
 // kind.
-#[derive(Clone, Copy)]
+#[derive(Clone, Copy, Debug, PartialEq, Eq)]
 pub struct Head {
     pub names: usize,
     pub own: usize,
@@ -21,7 +21,7 @@ pub struct Head {
 }
 
 impl Head {
-    // How many pairs of a kind there are.
+    // How many pairs of a kind there are: two fields, since the definitions name each.
     pub fn pairs(self, kind: Kind) -> usize
         ensures { result ≡ counted_pairs self kind }
     {
@@ -63,7 +63,8 @@ pub fn head_at(b: &[u8]) -> Head
 
 // Where the body of the name at place i stands, in a buffer that counts so.
 pub fn part_of(b: &[u8], head: Head, i: usize) -> Part
-    requires { IsHead b.now head × (entry_at i + entry_length ≤ length b.now) }
+    requires counted { IsCount (name_count b.now) head.names × IsCount (pair_count Subgraph b.now) head.subgraph × IsCount (pair_count Translation b.now) head.translation }
+    requires entry { entry_at i + entry_length ≤ length b.now }
     ensures { IsPart b.now i result }
 {
     let bodies = bodies_after(head.names, head.subgraph + head.translation);
@@ -93,7 +94,8 @@ pub fn name_count(b: &[u8]) -> usize
 // The own name's place, counted from 0, if there is one.
 pub fn own_place(b: &[u8]) -> Option<usize>
     requires { counts_length ≤ length b.now }
-    ensures { result ≡ place_numbered (own_number b.now) }
+    ensures value { result ≡ place_numbered (own_number b.now) }
+    ensures small { IfSome result (λ place. place < 65535) }
 {
     match read16(b, 2) {
         0 => None,

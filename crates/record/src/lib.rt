@@ -6,19 +6,23 @@
 
 mod layout;
 mod offsets;
+mod pairs;
 mod record;
+mod rows;
 mod test;
 mod validity;
 mod writing;
 
 pub use layout::{
     Head, bodies_at, body_length, body_start, head_at, name_at, name_count, name_in, own_name,
-    own_place, pair_at, pair_count, pair_from, pair_to, part_of, table_at,
+    pair_at, pair_count, pair_from, pair_to, part_of, table_at,
 };
 pub use offsets::{
     MAX_BODIES_BYTES, MAX_NAME_BYTES, MAX_NAMES, MAX_PAIRS, PAIR_LENGTH, RECORD_LENGTH,
     empty_record,
 };
+pub use pairs::Pairs;
 pub use record::Record;
+pub use rows::Rows;
 pub use validity::{check, check_both, is_record};
 pub use writing::{write_counts, write_entry, write_pair};

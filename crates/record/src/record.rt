@@ -1,12 +1,13 @@
 // A record: a buffer that was tested, with its four counts, seen as the graph name that it means.
-ghost use Rattle.std.specs.Prelude.{◌≡◌, true, length, slice_get};
+ghost use Rattle.std.specs.Prelude.{◌≡◌, ◌≤◌, true, false, length, slice_get};
 ghost use Rattle.std.specs.Option.{option_copied};
-ghost use Rattle.model.specs.Record.{names};
+ghost use Rattle.model.specs.Record.{names, any_long, max_names, max_pairs};
 ghost use Rattle.model.specs.Opening.{is_some, opened, record_in, two_records};
 ghost use Rattle.model.specs.Questions.{mapped, part_of, pair_parts, pairs_of};
 
 use crate::layout;
 use crate::layout::{Head, head_at, part_of};
+use crate::pairs::Pairs;
 use crate::validity::{check, check_both};
 use model::{Fault, Kind, PairParts, Part};
 use std::marker::Model;
@@ -32,7 +33,8 @@ impl<'a> Model for Record<'a> {
 
 impl<'a> Record<'a> {
     ghost use Rattle.model.specs.Layout.{shown, decode};
-    ghost use Rattle.record.specs.Holds.{HoldsRecord};
+    ghost use Rattle.record.specs.Holds.{HoldsRecord, IsOwnPlace};
+    ghost use Rattle.record.specs.Pairs.{pairs_left};
 
     // The record that a buffer is: refused for its length, or else for its contents.
     pub fn open(b: &'a [u8]) -> Result<Record<'a>, Fault>
@@ -71,16 +73,26 @@ impl<'a> Record<'a> {
 
     // How many names there are.
     pub fn name_count(&self) -> usize
-        ensures { result ≡ length (names self.now) }
+        ensures value { result ≡ length (names self.now) }
+        ensures most { result ≤ max_names }
     {
         self.head.names
     }
 
     // How many pairs of a kind there are.
     pub fn pair_count(&self, kind: Kind) -> usize
-        ensures { result ≡ length (pairs_of kind self.now) }
+        ensures value { result ≡ length (pairs_of kind self.now) }
+        ensures most { result ≤ max_pairs }
     {
         self.head.pairs(kind)
+    }
+
+    // The pairs of a kind, one by one; and that the names of a record are short.
+    pub fn pairs(&self, kind: Kind) -> Pairs<'a>
+        ensures value { pairs_left result ≡ pairs_of kind self.now }
+        ensures short { any_long (names self.now) ≡ false }
+    {
+        Pairs::of(self.bytes, kind)
     }
 
     // The own name, if there is one.
@@ -88,6 +100,13 @@ impl<'a> Record<'a> {
         ensures { option_copied result ≡ self.now.name }
     {
         layout::own_name(self.bytes)
+    }
+
+    // The place of the own name, if there is one.
+    pub fn own_place(&self) -> Option<usize>
+        ensures { IsOwnPlace self.now result }
+    {
+        layout::own_place(self.bytes)
     }
 
     // Where the own name stands, if there is one.

@@ -1,75 +1,74 @@
 // The test of a buffer: whether it is a record, part by part.
-ghost use Rattle.std.specs.Prelude.{◌≡◌, true, ◌+◌, ◌*◌, ◌≤◌, ◌<◌, length, drop, replicate};
+ghost use Rattle.std.specs.Prelude.{◌≡◌, ◌&&◌, ◌+◌, ◌*◌, ◌≤◌, length, drop, ltb};
 ghost use Rattle.model.specs.Bytes.{compare_bytes};
 ghost use Rattle.model.specs.Record.{ascends, max_names};
 ghost use Rattle.model.specs.Layout.{record_length, counts_length, pair_length, entry_at, bodies_after};
-ghost use Rattle.record.specs.Test.{entries_at, pairs_at, Under, body_end, cut, is_less, pair_less, pair_ok, pairs_ok, is_used, every, marks, mark_own, is_one};
+ghost use Rattle.record.specs.Rows.{rows_of};
+ghost use Rattle.record.specs.Test.{entries_at, pairs_at, Under, body_end, end_within, cut, is_less, pair_less, pairs_ok, is_used, every, marks, mark_own, is_one};
 
-use crate::layout::{Head, body_length, body_start, pair_from, pair_to};
-use crate::offsets::{MAX_NAME_BYTES, MAX_NAMES, PAIR_LENGTH, RECORD_LENGTH, entry_at};
-use text::{filled, read16};
+use crate::layout::Head;
+use crate::offsets::{
+    COUNTS_LENGTH, MAX_BODIES_BYTES, MAX_NAME_BYTES, MAX_NAMES, PAIR_LENGTH, entry_at,
+};
+use crate::rows::Rows;
+use text::filled;
 
-// Where the bodies of n names end, counted from the first, if the entries leave no gap and no name is long; else a record's length.
-pub(crate) fn body_end(b: &[u8], n: usize) -> usize
+// Where the bodies of n names end, counted from the first, if the entries leave no gap, no name is long and all are within the most bytes.
+pub(crate) fn body_end(b: &[u8], n: usize) -> Option<usize>
     requires { (n ≤ max_names) × (entry_at n ≤ length b.now) }
-    ensures { result ≡ body_end 0 (entries_at n (drop counts_length b.now)) }
+    ensures { result ≡ end_within (body_end 0 (entries_at n (drop counts_length b.now))) }
 {
     let mut at = 0;
-    for i in 0..n {
-        let size = body_length(b, i);
-        if body_start(b, i) != at {
-            return RECORD_LENGTH;
+    for (start, size) in Rows::new(b, COUNTS_LENGTH, n) {
+        if start != at {
+            return None;
         }
         if MAX_NAME_BYTES < size {
-            return RECORD_LENGTH;
+            return None;
         }
         at += size;
     }
-    at
+    if MAX_BODIES_BYTES < at {
+        return None;
+    }
+    Some(at)
 }
 
-// Whether the pair (a, b) comes before the pair (c, d).
-fn pair_less(a: usize, b: usize, c: usize, d: usize) -> bool
-    ensures { result ≡ pair_less a b c d }
+// Whether both places of a pair are below n.
+fn is_below(pair: (usize, usize), n: usize) -> bool
+    ensures { result ≡ (ltb pair.0 n && ltb pair.1 n) }
 {
-    (a, b) < (c, d)
+    let (a, b) = pair;
+    a < n && b < n
 }
 
-// Whether the first of the `left` pairs from `at` on is of places below n, and comes before the next.
-fn pair_ok(b: &[u8], at: usize, left: usize, n: usize) -> bool
-    requires { (0 < left) × (at + pair_length * left ≤ length b.now) }
-    ensures { result ≡ pair_ok n (pairs_at left (drop at b.now)) }
+// Whether a pair comes before another.
+fn pair_less(pair: (usize, usize), next: (usize, usize)) -> bool
+    ensures { result ≡ pair_less pair.0 pair.1 next.0 next.1 }
 {
-    let x = read16(b, at);
-    let y = read16(b, at + 2);
-    if n <= x {
-        return false;
-    }
-    if n <= y {
-        return false;
-    }
-    if left == 1 {
-        return true;
-    }
-    pair_less(
-        x,
-        y,
-        read16(b, at + PAIR_LENGTH),
-        read16(b, at + PAIR_LENGTH + 2),
-    )
+    pair < next
 }
 
-// Whether the `count` pairs from `at` on are of places below n, and ascend.
+// Whether the `count` pairs from `at` on are of places below n, and ascend. Each is looked at once, with the next: `all` and then `is_sorted_by`
+// would go over them twice. So are names below, and the tags of a list.
 pub(crate) fn pairs_ok(b: &[u8], at: usize, count: usize, n: usize) -> bool
     requires { at + pair_length * count ≤ length b.now }
     ensures { result ≡ pairs_ok n (pairs_at count (drop at b.now)) }
 {
-    for i in 0..count {
-        if !pair_ok(b, at + PAIR_LENGTH * i, count - i, n) {
+    let mut rest = Rows::new(b, at, count);
+    let Some(mut pair) = rest.next() else {
+        return true;
+    };
+    for next in rest {
+        if !is_below(pair, n) {
             return false;
         }
+        if !pair_less(pair, next) {
+            return false;
+        }
+        pair = next;
     }
-    true
+    is_below(pair, n)
 }
 
 // Whether one byte string comes before another.
@@ -84,27 +83,29 @@ pub(crate) fn names_ascend(b: &[u8], n: usize, bodies: usize) -> bool
     requires { (n ≤ max_names) × (entry_at n ≤ length b.now) × (bodies ≤ record_length) }
     ensures { result ≡ ascends compare_bytes (cut (entries_at n (drop counts_length b.now)) (drop bodies b.now)) }
 {
+    let mut rest = Rows::new(b, COUNTS_LENGTH, n);
+    let Some((_, mut size)) = rest.next() else {
+        return true;
+    };
     let mut at = bodies;
-    for i in 1..n {
-        let size = body_length(b, i - 1);
-        let next = body_length(b, i);
+    for (_, next) in rest {
         if !is_less(text::part(b, at, size), text::part(b, at + size, next)) {
             return false;
         }
         at += size;
+        size = next;
     }
     true
 }
 
-// Marks both places of each of the `count` pairs from `at` on.
-fn mark_pairs(used: &mut [u8], b: &[u8], at: usize, count: usize)
-    requires { (at + pair_length * count ≤ length b.now) × Under (length used.old) (pairs_at count (drop at b.now)) }
-    ensures { used.new ≡ marks (pairs_at count (drop at b.now)) used.old }
+// Marks both places of each pair.
+fn mark_pairs<'a>(used: &mut [u8], pairs: Rows<'a>)
+    requires { Under (length used.old) (rows_of pairs) }
+    ensures { used.new ≡ marks (rows_of pairs.entry) used.old }
 {
-    for i in 0..count {
-        let pair = at + PAIR_LENGTH * i;
-        used[pair_from(b, pair)] = 1;
-        used[pair_to(b, pair)] = 1;
+    for (from, to) in pairs {
+        used[from] = 1;
+        used[to] = 1;
     }
 }
 
@@ -136,7 +137,7 @@ pub(crate) fn all_used(b: &[u8], head: Head) -> bool
     let translation = subgraph + PAIR_LENGTH * head.subgraph;
     let mut used: [u8; MAX_NAMES] = filled(0);
     mark_own(&mut used, head.own);
-    mark_pairs(&mut used, b, subgraph, head.subgraph);
-    mark_pairs(&mut used, b, translation, head.translation);
+    mark_pairs(&mut used, Rows::new(b, subgraph, head.subgraph));
+    mark_pairs(&mut used, Rows::new(b, translation, head.translation));
     all_marked(&used, head.names)
 }

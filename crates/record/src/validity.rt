@@ -6,9 +6,7 @@ ghost use Rattle.model.specs.Opening.{is_some, check_of, check_of_both};
 ghost use Rattle.record.specs.Test.{counts_ok, tables_ok};
 
 use crate::layout::{Head, head_at};
-use crate::offsets::{
-    MAX_BODIES_BYTES, MAX_NAMES, MAX_PAIRS, PAIR_LENGTH, RECORD_LENGTH, bodies_after, entry_at,
-};
+use crate::offsets::{MAX_NAMES, MAX_PAIRS, PAIR_LENGTH, RECORD_LENGTH, bodies_after, entry_at};
 use crate::test::{all_used, body_end, names_ascend, pairs_ok};
 use model::Fault;
 
@@ -54,10 +52,9 @@ pub fn is_record(b: &[u8]) -> bool
     if !counts_ok(head) {
         return false;
     }
-    let end = body_end(b, head.names);
-    if MAX_BODIES_BYTES < end {
+    let Some(end) = body_end(b, head.names) else {
         return false;
-    }
+    };
     if !tables_ok(b, head) {
         return false;
     }

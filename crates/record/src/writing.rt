@@ -4,23 +4,18 @@ ghost use Rattle.model.specs.Bytes.{put};
 ghost use Rattle.model.specs.Layout.{counts_length, entry_length, pair_length};
 ghost use Rattle.record.specs.Coded.{le_pairs, counts_of, entry_of};
 
+use crate::layout::Head;
 use text::write16;
 
 // Writes the four counts, and gives the place behind them.
-pub fn write_counts(
-    buffer: &mut [u8],
-    names: usize,
-    own: usize,
-    subgraph: usize,
-    translation: usize,
-) -> usize
+pub fn write_counts(buffer: &mut [u8], head: Head) -> usize
     requires { counts_length ≤ length buffer.old }
-    ensures { (result ≡ counts_length) × (buffer.new ≡ put buffer.old 0 (counts_of names own subgraph translation)) }
+    ensures { (result ≡ counts_length) × (buffer.new ≡ put buffer.old 0 (counts_of head.names head.own head.subgraph head.translation)) }
 {
-    let a = write16(buffer, 0, names);
-    let b = write16(buffer, a, own);
-    let c = write16(buffer, b, subgraph);
-    write16(buffer, c, translation)
+    let a = write16(buffer, 0, head.names);
+    let b = write16(buffer, a, head.own);
+    let c = write16(buffer, b, head.subgraph);
+    write16(buffer, c, head.translation)
 }
 
 // Writes the entry of a name whose body begins at `start`, counted from the first body, and gives the place behind it.

@@ -1,6 +1,7 @@
 // Answers handed out: what a layer below answers as the numbers behind an exported function's pointers, and the number that it returns.
 //
-// A number behind a `&mut u64` is written on 0 only, but for the four of a reading, which are always written.
+// A number behind a `&mut u64` is written on 0 only, but for the four of a reading, which are always written. There is a function for each
+// number of pointers, since C gives each of them by itself; a closure that wrote them could not be known to leave them on a refusal.
 #![tactic(auto)]
 
 mod questions;

@@ -7,7 +7,8 @@ use crate::records::place_out;
 use crate::texts::length_out;
 use model::{Fault, TagParts};
 
-// Hands out a tag: whether there is one, and where its key and its value start and how long they are.
+// Hands out a tag: whether there is one, and where its key and its value start and how long they are. It is `pair_out` but for the names of
+// the parts, whose types are apart so that no key is taken for a name.
 pub fn tag_parts_out(
     given: Result<Option<TagParts>, Fault>,
     present: &mut u64,

@@ -16,6 +16,7 @@ pub mod Right
 pub mod Between
 pub mod Answer
 pub mod Merging
+pub mod Seeking
 pub mod Beginnings
 pub mod Rows
 pub mod StepTables

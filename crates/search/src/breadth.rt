@@ -8,8 +8,8 @@ use crate::Searched;
 use crate::graph::Graph;
 use crate::step::Step;
 
-// The tables of a search: the queue, with a step to each node that is found, from the place of its predecessor, in the order of finding;
-// and by node its place in the queue.
+// The tables of a search, lent by the caller: the queue, with a step to each node that is found, from the place of its predecessor, in the order
+// of finding; and by node its place in the queue. How many are found goes along, since the queue has room for all.
 #[derive(Drop)]
 pub struct Search<'a> {
     pub queue: &'a mut [Step],
@@ -47,6 +47,7 @@ impl<'a> Search<'a> {
         self.places[from] = Some(0);
         let mut found = 1;
         let mut taken = 0;
+        // Not a `for`: the end grows with what is found.
         while taken < found {
             if self.queue[taken].to() == target {
                 return Searched {

@@ -5,17 +5,15 @@ ghost use Rattle.search.specs.Table.{Rises, Indexed};
 
 use crate::step::Step;
 
-// Where the steps of a node begin, from place e on.
+// Where the steps of a node begin, from place e on: one by one, since over all nodes each step is looked at once.
 fn seek(steps: &[Step], node: usize, e: usize) -> usize
     requires { (e ≤ length steps.now) × ((i : ℕ) → i < e → get_or steps.now i 0 < node * max_moves) }
     ensures { (result ≤ length steps.now) × ((i : ℕ) → i < result → get_or steps.now i 0 < node * max_moves) × (result < length steps.now → node * max_moves ≤ get_or steps.now result 0) }
 {
-    for i in e..steps.len() {
-        if node <= steps[i].from() {
-            return i;
-        }
+    match steps[e..].iter().position(|step| node <= step.from()) {
+        Some(more) => e + more,
+        None => steps.len(),
     }
-    steps.len()
 }
 
 // Where the steps of each node begin; the last number is for the end of those of the last node.
@@ -31,7 +29,7 @@ fn index(steps: &[Step], starts: &mut [u16])
 }
 
 // The steps, and by node the place of its first; one number more is for the end of the last node's.
-#[derive(Clone, Copy)]
+#[derive(Clone, Copy, Debug)]
 pub struct Graph<'a> {
     pub steps: &'a [Step],
     pub starts: &'a [u16],

@@ -21,7 +21,7 @@ pub use table::merge;
 
 // How many nodes were taken from the queue, how many were found, and at which place of the queue the target is, if it was reached: it
 // is the last one taken then.
-#[derive(Clone, Copy)]
+#[derive(Clone, Copy, Debug, PartialEq, Eq)]
 pub struct Searched {
     pub taken: usize,
     pub found: usize,

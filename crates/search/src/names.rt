@@ -5,7 +5,7 @@ ghost use Rattle.search.specs.Spans.{spanned, named};
 use text::part;
 
 // Where a name stands.
-#[derive(Clone, Copy)]
+#[derive(Clone, Copy, Debug, PartialEq, Eq)]
 pub struct Span {
     pub start: u32,
     pub size: u16,
@@ -27,7 +27,7 @@ impl Span {
 }
 
 // The names of the nodes, by number.
-#[derive(Clone, Copy)]
+#[derive(Clone, Copy, Debug)]
 pub struct Names<'a> {
     pub first: &'a [u8],
     pub second: &'a [u8],

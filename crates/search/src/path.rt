@@ -11,6 +11,7 @@ pub fn path_length(queue: &[Step], place: usize) -> usize
 {
     let mut j = place;
     let mut n = 0;
+    // By the predecessors, up to the first. `successors` was tried, and that its run ends could not be shown, where the loop has a measure.
     while 0 < j {
         j = queue[j].from();
         n += 1;

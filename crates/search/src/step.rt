@@ -14,7 +14,7 @@ const MAX_NODES: u32 = 8192;
 const MAX_MOVES: u32 = 16384;
 
 // A step from a node to another by a kind. In a search's queue it leads from the node at a place, and `from` is that place.
-#[derive(Clone, Copy, PartialEq, Eq, PartialOrd, Ord)]
+#[derive(Clone, Copy, Debug, PartialEq, Eq, PartialOrd, Ord)]
 pub struct Step(u32);
 
 impl Model for Step {

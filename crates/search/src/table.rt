@@ -4,7 +4,8 @@ ghost use Rattle.search.specs.Table.{Mergeable, Merged};
 
 use crate::step::Step;
 
-// Writes the rest of a table behind the first n steps of another; gives how many that makes.
+// Writes the rest of a table behind the first n steps of another; gives how many that makes. What `text::copy` is for bytes, here for what is
+// said of the first steps alone.
 fn append_rest(rest: &[Step], out: &mut [Step], n: usize) -> usize
     requires { n + length rest.now ≤ length out.old }
     ensures { (take result out.new ≡ take n out.old ++ rest.now) × (result ≡ n + length rest.now) }
@@ -22,6 +23,7 @@ pub fn merge(a: &[Step], b: &[Step], out: &mut [Step]) -> usize
     let mut i = 0;
     let mut j = 0;
     let mut n = 0;
+    // By two cursors, without a branch: after each step one table or both go on. An iterator that joins two would say each time which it was.
     while i < a.len() && j < b.len() {
         let x = a[i];
         let y = b[j];

@@ -1,9 +1,12 @@
--- Ascending numbers and what is put into them; names and pairs put into the tables.
+-- Ascending numbers and what is put into them; names and pairs put into the tables; what is known of records, and one loaded.
 pub mod Lower
 pub mod Splice
 pub mod Renumber
 pub mod Search
 pub mod Bodies
 pub mod Pairs
+pub mod Unused
 pub mod PutName
 pub mod PutPair
+pub mod Records
+pub mod Loaded

@@ -1,10 +1,11 @@
 -- The working tables, and the graph name that they show. Names are numbers, start * 65536 + length, of bodies in a pool; pairs are
 -- numbers, first place * 65536 + second place.
 use Rattle.std.specs.Prelude.{◌≡◌, false, ℕ, ◌+◌, ◌/◌, ◌%◌, ◌≤◌, ◌<◌, length, take, drop}
-use mathlib.Core.List.{List, map, Memᴰ}
+use mathlib.Core.List.{List, [], map, Memᴰ}
 use Rattle.model.specs.Bytes.{Bytes, compare_numbers, compare_bytes}
 use Rattle.model.specs.Record.{GraphName, insert, with_pair, any_long, bodies, max_name_bytes}
 use Rattle.model.specs.declared.Kind.{Kind}
+use Rattle.model.specs.declared.Kind.TheVariants.{Subgraph, Translation}
 use Rattle.model.specs.Statements.{Ascending}
 use Rattle.record.specs.Test.{Under}
 use Rattle.record.specs.Coded.{Coded, meaning}
@@ -21,6 +22,19 @@ pub record Tables : Type 0 where
 
 abbrev pub tables : List ℕ → List ℕ → List ℕ → Bytes → Sizes → Tables
 tables refs subs trans pool sizes = record { refs = refs; subs = subs; trans = trans; pool = pool; sizes = sizes }
+
+-- tables that hold these lists, all of which is in use
+abbrev pub holding : List ℕ → List ℕ → List ℕ → Bytes → Tables
+holding refs subs trans pool =
+    tables refs subs trans pool (record { names = length refs; bytes = length pool; subgraph = length subs; translation = length trans })
+
+-- nothing in use
+abbrev pub unused : Sizes
+unused = record { names = 0; bytes = 0; subgraph = 0; translation = 0 }
+
+-- tables that hold nothing
+abbrev pub fresh : Tables
+fresh = holding [] [] [] []
 
 -- the body that a number stands for
 abbrev pub body_in : Bytes → ℕ → Bytes
@@ -39,6 +53,11 @@ pairs_in n xs = map places_of (take n xs)
 
 abbrev pub table_names : Tables → List Bytes
 table_names t = names_in t.pool t.sizes.names t.refs
+
+-- the numbers of the pairs of a kind
+abbrev pub numbers_of : Kind → Tables → List ℕ
+numbers_of Subgraph t = take t.sizes.subgraph t.subs
+numbers_of Translation t = take t.sizes.translation t.trans
 
 -- what the tables hold, with the number of the own name, its place and one more, or 0 for none
 abbrev pub read_out : Tables → ℕ → Coded
@@ -72,20 +91,20 @@ pub record Kept (t : Tables) : Type 0 where
   pub subgraph : KeptPairs t.sizes.names t.sizes.subgraph t.subs
   pub translation : KeptPairs t.sizes.names t.sizes.translation t.trans
 
--- there is room for a name, which is short
-pub record NameRoom (t : Tables) (name : Bytes) : Type 0 where
+-- in tables for so many names and bytes there is room for a name, which is short
+pub record NameRoom (names bytes : ℕ) (t : Tables) (name : Bytes) : Type 0 where
   pub short : length name ≤ max_name_bytes
-  pub count : t.sizes.names < length t.refs
-  pub room : t.sizes.bytes + length name ≤ length t.pool
+  pub count : t.sizes.names < names
+  pub room : t.sizes.bytes + length name ≤ bytes
 
--- there is room for a pair of either kind with its two names, which are short
-pub record PairRoom (t : Tables) (from to : Bytes) : Type 0 where
+-- in tables for so many names, pairs of each kind and bytes there is room for a pair of either kind with its two names, which are short
+pub record PairRoom (names pairs bytes : ℕ) (t : Tables) (from to : Bytes) : Type 0 where
   pub from_short : length from ≤ max_name_bytes
   pub to_short : length to ≤ max_name_bytes
-  pub count : t.sizes.names + 1 < length t.refs
-  pub room : t.sizes.bytes + length from + length to ≤ length t.pool
-  pub subgraph : t.sizes.subgraph < length t.subs
-  pub translation : t.sizes.translation < length t.trans
+  pub count : t.sizes.names + 1 < names
+  pub room : t.sizes.bytes + length from + length to ≤ bytes
+  pub subgraph : t.sizes.subgraph < pairs
+  pub translation : t.sizes.translation < pairs
 
 -- ------------------------------------------------------------------ what is put in
 

@@ -1,7 +1,11 @@
-// The working tables that reading, adding and merging share: names and pairs in ascending order, and a pool of bodies; what is put in.
+// The working tables that reading, adding and merging share: names and pairs in ascending order, and a pool of bodies; a record loaded, and
+// what is put in.
 #![tactic(auto)]
 
+mod loading;
 mod numbers;
 mod putting;
+mod tables;
 
-pub use putting::{PlacedName, Sizes, body, put_name, put_pair, seek};
+pub use putting::{Sizes, body};
+pub use tables::Tables;

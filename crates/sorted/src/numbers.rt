@@ -1,21 +1,14 @@
-// Ascending numbers in the first part of a slice: putting one in, and renumbering.
-ghost use Rattle.std.specs.Prelude.{◌≡◌, ◌++◌, map, ◌+◌, ◌/◌, ◌%◌, ◌≤◌, ◌<◌, length, take, drop};
-ghost use Rattle.std.specs.List.{insert as inserted};
+// Ascending numbers: putting one in; and renumbering pairs.
+ghost use Rattle.std.specs.Prelude.{◌≡◌, map, ◌/◌, ◌%◌, ◌<◌};
+ghost use Rattle.arrayvec.specs.ArrayVec.{array_vec_len};
 ghost use Rattle.model.specs.Bytes.{compare_numbers};
 ghost use Rattle.model.specs.Record.{insert};
 ghost use Rattle.model.specs.Statements.{Ascending};
 ghost use Rattle.record.specs.Test.{Under};
 ghost use Rattle.sorted.specs.Sorted.{renumbered};
-ghost use Rattle.sorted.specs.Tables.{pairs_in};
+ghost use Rattle.sorted.specs.Tables.{places_of};
 
-// Puts v at place p of the first n, and those from there on one place on.
-pub(crate) fn insert_at(a: &mut [u32], n: usize, p: usize, v: u32)
-    requires { (p ≤ n) × (n < length a.old) }
-    ensures { a.new ≡ inserted (take n a.old) p v ++ drop (n + 1) a.old }
-{
-    a.copy_within(p..n, p + 1);
-    a[p] = v;
-}
+use arrayvec::ArrayVec;
 
 // The two places of a pair after a name came in at place p: each goes up by one from there on.
 #[tactic(auto, unfolding(crate::specs::Sorted::renumbered))]
@@ -26,26 +19,22 @@ fn renumbered(p: u32, pair: u32) -> u32
     pair + 65536 * u32::from(p <= pair / 65536) + u32::from(p <= pair % 65536)
 }
 
-// The places of the first n pairs after a name came in at place p.
-pub(crate) fn renumber(a: &mut [u32], n: usize, p: u32)
-    requires { (n ≤ length a.old) × Under 65535 (pairs_in n a.old) }
-    ensures { a.new ≡ map (renumbered p) (take n a.old) ++ drop n a.old }
+// The places of pairs after a name came in at place p.
+pub(crate) fn renumber(pairs: &mut [u32], p: u32)
+    requires { Under 65535 (map places_of pairs.old) }
+    ensures { pairs.new ≡ map (renumbered p) pairs.old }
 {
-    for pair in &mut a[..n] {
+    for pair in pairs {
         *pair = renumbered(p, *pair);
     }
 }
 
-// Puts a number into the first n, which ascend, unless it is there, and gives how many there are then.
-pub(crate) fn put_number(a: &mut [u32], n: usize, v: u32) -> usize
-    requires { (n < length a.old) × Ascending compare_numbers (take n a.old) }
-    ensures { (result ≤ n + 1) × (take result a.new ≡ insert compare_numbers v (take n a.old)) }
+// Puts a number among these, which ascend, unless it is there.
+pub(crate) fn put_number<const N: usize>(a: &mut ArrayVec<u32, N>, v: u32)
+    requires { (array_vec_len a.old < N) × Ascending compare_numbers a.old.items }
+    ensures { a.new.items ≡ insert compare_numbers v a.old.items }
 {
-    match a[..n].binary_search(&v) {
-        Ok(_) => n,
-        Err(p) => {
-            insert_at(a, n, p, v);
-            n + 1
-        }
+    if let Err(p) = a.binary_search(&v) {
+        a.insert(p, v);
     }
 }

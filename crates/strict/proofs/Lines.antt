@@ -12,13 +12,14 @@ use lib.Seq.{drop-cons}
 use Rattle.std.specs.Prelude.{Result, Ok, Err, MatchBool}
 use Rattle.std.specs.List.{slice_split, onto_first, enumerate_from}
 use Rattle.std.specs.Str.{bytes_eq}
+use Rattle.std.specs.Cmp.{both_ways}
 use Rattle.std.proofs.lemmas.List.Splits.{length-slice_split}
 use Rattle.std.proofs.lemmas.List.FromFn.{length-enumerate_from, get_or-enumerate_from}
 use Rattle.std.proofs.lemmas.Slice.Eq.{bytes_eq-Decides}
+use Rattle.std.proofs.lemmas.Bool.{and_parts}
 use Rattle.model.specs.Text.{text}
 use Rattle.model.specs.Bytes.{Bytes, same_bytes, cons_head, split}
 use Rattle.model.specs.Strict.{fine_field, has_tag, strict_fields, strict_parts, strict}
-use Rattle.text.proofs.Tests.{both_true, same_tests}
 use Rattle.text.proofs.Order.{same_bytes_true}
 use Rattle.strict.specs.Tag.{field_place}
 use Rattle.strict.proofs.Tags.{Marked, marked_none, marked_field, new_tag}
@@ -59,7 +60,7 @@ same_text : (a b : Bytes) → bytes_eq a b ≡ same_bytes a b
 same_text a b =
     let d = bytes_eq-Decides a b in
     let s = same_bytes_true a b in
-    same_tests (bytes_eq a b) (same_bytes a b) (λ h. s.1 (d.0 h)) (λ h. d.1 (s.0 h))
+    both_ways (bytes_eq a b) (same_bytes a b) (λ h. s.1 (d.0 h)) (λ h. d.1 (s.0 h))
 
 -- n fields were read; the table has their tags, and the fields left decide
 pub record Reading (line : Bytes) (seen : List Bool) (n : ℕ) : Type 0 where
@@ -115,7 +116,7 @@ module _ {line : Bytes} {seen : List Bool} {n : ℕ} (r : Reading line seen n) w
         → (seen' : List Bool) → seen' ≡ cond (fine_field p.1) (set seen (field_place p.1) true) seen
         → MatchBool t (Reading line seen' (n + 1)) (strict line ≡ Err p.0)
     next_field z t b seen' m =
-        go t (λ e. (both_true (fine_field p.1) _ (sym b ∙ e)).0)
+        go t (λ e. (and_parts (fine_field p.1) _ (sym b ∙ e)).0)
         (r.same ∙ rw (next, b, new_tag p.1 seen r.tags r.marked) (decided_next n r.tags p.1 left (λ e. z (number ∙ e))))
       where
         go : (t : Bool) → (t ≡ true → fine_field p.1 ≡ true) → strict line ≡ cond t (decided (suc n) (take 2 p.1 ∷ r.tags) left) (Err n)

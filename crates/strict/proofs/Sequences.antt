@@ -5,9 +5,9 @@ use mathlib.Core.Bool.{Bool, true, false, cond, ◌&&◌, ◌||◌, and-or_distr
 use mathlib.Core.List.{[], ◌∷◌, ◌++◌, append-nil, append_assoc}
 use Prim.Native.Nat.{ℕ}
 use lib.Dec.{eqb}
+use Rattle.std.specs.Cmp.{both_ways}
 use Rattle.model.specs.Bytes.{Bytes}
 use Rattle.model.specs.Strict.{Class, Regex, never, epsilon, one, seq, alt, plus, opt, one_of, Repeats, last, more, Matches, nullable, after, matches}
-use Rattle.text.proofs.Tests.{same_tests}
 use Rattle.strict.specs.Class.{is_one_of}
 use Rattle.strict.proofs.Regex.{matches_exactly}
 
@@ -16,7 +16,7 @@ same_test : (r t : Regex) (s : Bytes) → (Matches r s → Matches t s) → (Mat
 same_test r t s f g =
     let h = matches_exactly r s in
     let k = matches_exactly t s in
-    same_tests (matches r s) (matches t s) (λ e. k.1 (f (h.0 e))) (λ e. h.1 (g (k.0 e)))
+    both_ways (matches r s) (matches t s) (λ e. k.1 (f (h.0 e))) (λ e. h.1 (g (k.0 e)))
 
 pub never_fails : (s : Bytes) → matches never s ≡ false
 unfolding matches nullable after

@@ -9,9 +9,10 @@ use lib.Dec.{leb}
 use lib.ListN.{length, get_or, take, set, replicate, length-set, get_or-replicate}
 use lib.Seq.{get_or-set_same, get_or-set_other}
 use borrow.Author.Tests.{leb-true, lt-ltb, le-ltb}
+use Rattle.std.proofs.lemmas.Bool.{and_parts}
 use Rattle.model.specs.Bytes.{Bytes, same_bytes}
 use Rattle.model.specs.Strict.{range, letter, has_tag, fine_field}
-use Rattle.text.proofs.Tests.{both_true, either_true}
+use Rattle.text.proofs.Tests.{either_true}
 use Rattle.text.proofs.Order.{same_bytes_true}
 use Rattle.strict.specs.Tag.{letter_place, tag_place, field_place}
 
@@ -24,14 +25,14 @@ letter_placed x e = ⊎_elim large small ((either_true (range 65 90 x) (range 97
   where
     large : range 65 90 x ≡ true → Placed x (letter_place x)
     large h =
-        let p = both_true (leb 65 x) (leb x 90) h in
+        let p = and_parts (leb 65 x) (leb x 90) h in
         let l = leb-true 65 x p.0 in
         let u = leb-true x 90 p.1 in
         inl (rw (lt-ltb x 97 (omega arith)) (omega arith))
 
     small : range 97 122 x ≡ true → Placed x (letter_place x)
     small h =
-        let p = both_true (leb 97 x) (leb x 122) h in
+        let p = and_parts (leb 97 x) (leb x 122) h in
         let l = leb-true 97 x p.0 in
         let u = leb-true x 122 p.1 in
         inr (rw (le-ltb x 97 l) (omega arith))
@@ -100,11 +101,11 @@ pub record Begins (f : Bytes) : Type 0 where
 pub fine_begins : (f : Bytes) → fine_field f ≡ true → Begins f
 unfolding fine_field
 fine_begins f e =
-    let p = both_true _ _ e in
-    let q = both_true _ _ p.0 in
-    let r = both_true _ _ q.0 in
-    let s = both_true _ _ r.0 in
-    let t = both_true (leb 5 (length f)) (letter (get_or f 0 0)) s.0 in
+    let p = and_parts _ _ e in
+    let q = and_parts _ _ p.0 in
+    let r = and_parts _ _ q.0 in
+    let s = and_parts _ _ r.0 in
+    let t = and_parts (leb 5 (length f)) (letter (get_or f 0 0)) s.0 in
     record { long = leb-true 5 (length f) t.0; first = t.1; second = s.1 }
 
 pub tag_of : (f : Bytes) → 5 ≤ length f → take 2 f ≡ get_or f 0 0 ∷ get_or f 1 0 ∷ []

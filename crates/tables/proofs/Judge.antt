@@ -28,9 +28,10 @@ use Rattle.record.proofs.Names.{all_names, names_ascending, names_members, own_l
 use Rattle.text.proofs.Order.{bytes_order}
 use Rattle.text.proofs.Ascending.{insert_members, insert_ascending, insert_present, ascending_unique}
 use Rattle.sorted.specs.Sorted.{sought}
-use Rattle.sorted.specs.Tables.{Tables, names_in, table_names, graph_in, read_out, places_of, pairs_in, NamePut, PairPut}
+use Rattle.sorted.specs.Tables.{Tables, table_names, graph_in, read_out, places_of, pairs_in, Kept, NamePut, PairPut}
 use Rattle.sorted.specs.declared.putting.Sizes.{Sizes}
-use Rattle.tables.specs.Judging.{owned, names_and, count_fault, size_fault, outcome, NamesKept, Good, Complete, Storable}
+use Rattle.sorted.specs.Loading.{owned, Good}
+use Rattle.tables.specs.Judging.{names_and, count_fault, size_fault, outcome, Complete, Storable}
 use Rattle.sorted.proofs.Lower.{found, missing}
 use Rattle.sorted.proofs.Splice.{length_bodies_inserted}
 use Rattle.sorted.proofs.Search.{length_names}
@@ -102,9 +103,12 @@ judge_tables t o g =
     )
 
 -- the number that tables are judged by, as their own name is absent, long, there or new; with room for one more the last two are the same
-module _ (refs : List ℕ) (pool : Bytes) (sizes : Sizes) (k : NamesKept refs pool sizes) where
+module _ (t : Tables) (k : Kept t) where
+  abbrev sizes : Sizes
+  sizes = t.sizes
+
   abbrev ns : List Bytes
-  ns = names_in pool sizes.names refs
+  ns = table_names t
 
   abbrev number : Option Bytes → ℕ
   number own = size_fault (names_and own ns) sizes.subgraph sizes.translation
@@ -113,7 +117,7 @@ module _ (refs : List ℕ) (pool : Bytes) (sizes : Sizes) (k : NamesKept refs po
   counted n bytes = count_fault n bytes sizes.subgraph sizes.translation
 
   count_kept : length ns ≡ sizes.names
-  count_kept = length_names pool sizes.names refs k.count
+  count_kept = length_names t.pool sizes.names t.refs k.count
 
   pub fault_without : number None ≡ counted sizes.names sizes.bytes
   fault_without = rw (k.short, count_kept, ← k.total)

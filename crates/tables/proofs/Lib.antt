@@ -1,8 +1,5 @@
--- The tables stored and loaded, the sizes judged, and the pairs of another record put in one after the other.
+-- The tables stored, the sizes judged, and the pairs of a record put in one after the other.
 pub mod Writing
 pub mod Stored
 pub mod Judge
-pub mod Records
-pub mod Loaded
 pub mod Merge
-pub mod AsRead

@@ -1,34 +1,29 @@
 -- All pairs of a graph name put into tables: the names never are more than those of both, and the pairs never more than both have.
 use mathlib.Core.Path.{◌≡◌, refl, ap, ◌∙◌}
-use mathlib.Core.Logic.{◌⊎◌, inl, inr, ⊎_elim}
+use mathlib.Core.Logic.{inl, inr, ⊎_elim}
+use mathlib.Core.Bool.{false}
+use mathlib.Core.List.Memᴰ
 use mathlib.Core.List.{List, [], ◌∷◌, Memᴰ}
 use Rattle.std.specs.Prelude.{Option}
-use Prim.Native.Nat.{ℕ, ◌+◌, ◌≤◌, ◌<◌}
+use Prim.Native.Nat.{ℕ, suc, ◌+◌, ◌≤◌}
 use native.Mathlib.Omega.{arith}
-use native.Mathlib.Numerals.{add-one}
-use lib.ListN.{length, drop, get_or, drop_of_length-le}
-use lib.Seq.{drop-cons}
+use lib.ListN.{length}
 use Rattle.model.specs.declared.Kind.{Kind}
 use Rattle.model.specs.declared.Kind.TheVariants.{Subgraph, Translation}
 use Rattle.model.specs.Bytes.{Bytes, compare_bytes}
-use Rattle.model.specs.Record.{Pair, GraphName, compare_pairs, insert, with_pair, names, bodies, max_name_bytes}
+use Rattle.model.specs.Record.{Pair, GraphName, compare_pairs, insert, with_pair, names, pair_names, any_long, bodies}
 use Rattle.model.specs.Questions.{pairs_of}
 use Rattle.model.specs.Statements.{Ascending}
 use Rattle.record.proofs.Names.{pair_listed}
+use Rattle.record.proofs.Sizes.{short_names}
 use Rattle.text.proofs.Order.{bytes_order}
 use Rattle.text.proofs.Ascending.{insert_members, insert_all_ascending, insert_all_members}
-use Rattle.text.proofs.Places.{get_or_member}
 use Rattle.sorted.specs.Tables.{Tables, table_names, graph_in, Kept, PairRoom, PairPut}
-use Rattle.tables.specs.Judging.{Good}
-use Rattle.tables.specs.Loading.{sizes_of}
+use Rattle.sorted.specs.Loading.{sizes_of, Good}
 use Rattle.tables.specs.Merging.{with_pairs, subgraph_more, translation_more, all_of, MergeRoom, PairsPut}
 use Rattle.sorted.proofs.Search.{length_names}
-use Rattle.sorted.proofs.Pairs.{names_pair}
 use Rattle.text.proofs.Total.{total_count, total_bodies, total_insert, total_insert_all, ascending_once, total_part}
 use Rattle.tables.proofs.Judge.{length_shown, good_put}
-
-abbrev pub none_pair : Pair
-none_pair = record { from = []; to = [] }
 
 -- ------------------------------------------------------------------ sums over a part of the names
 
@@ -85,55 +80,38 @@ count_subgraph t k = length_shown (table_names t) t.sizes.subgraph t.subs k.subg
 count_translation : (t : Tables) → Kept t → length (graph_in t).translation ≡ t.sizes.translation
 count_translation t k = length_shown (table_names t) t.sizes.translation t.trans k.translation.within
 
-more_subgraph : (kind : Kind) (i : ℕ) → subgraph_more kind i + subgraph_more kind 1 ≡ subgraph_more kind (i + 1)
-more_subgraph Subgraph i = refl
+more_subgraph : (kind : Kind) (i : ℕ) → subgraph_more kind i + subgraph_more kind 1 ≡ subgraph_more kind (suc i)
+more_subgraph Subgraph i = omega arith
 more_subgraph Translation i = omega arith
 
-more_translation : (kind : Kind) (i : ℕ) → translation_more kind i + translation_more kind 1 ≡ translation_more kind (i + 1)
+more_translation : (kind : Kind) (i : ℕ) → translation_more kind i + translation_more kind 1 ≡ translation_more kind (suc i)
 more_translation Subgraph i = omega arith
-more_translation Translation i = refl
-
-less_subgraph : (kind : Kind) (i n : ℕ) → i ≤ n → subgraph_more kind i ≤ subgraph_more kind n
-less_subgraph Subgraph i n h = h
-less_subgraph Translation i n h = omega arith
-
-less_translation : (kind : Kind) (i n : ℕ) → i ≤ n → translation_more kind i ≤ translation_more kind n
-less_translation Subgraph i n h = omega arith
-less_translation Translation i n h = h
+more_translation Translation i = omega arith
 
 -- ------------------------------------------------------------------ a turn
 
--- the first i pairs of a kind are in
-pub record Putting (kind : Kind) (t : Tables) (h : GraphName) (i : ℕ) (u : Tables) : Type 0 where
+-- all pairs of a kind are in but those that are left
+pub record Putting (kind : Kind) (t : Tables) (h : GraphName) (left : List Pair) (u : Tables) : Type 0 where
   pub kept : Kept u
   pub good : (own : Option Bytes) → Good own t → Good own u
-  pub graph : with_pairs kind (drop i (pairs_of kind h)) (graph_in u) ≡ with_pairs kind (pairs_of kind h) (graph_in t)
+  pub graph : with_pairs kind left (graph_in u) ≡ with_pairs kind (pairs_of kind h) (graph_in t)
   pub within : (x : Bytes) → Memᴰ x (table_names u) → Memᴰ x (all_of t h)
-  pub subgraph : u.sizes.subgraph ≤ t.sizes.subgraph + subgraph_more kind i
-  pub translation : u.sizes.translation ≤ t.sizes.translation + translation_more kind i
-  pub refs : length u.refs ≡ length t.refs
-  pub subs : length u.subs ≡ length t.subs
-  pub trans : length u.trans ≡ length t.trans
-  pub pool : length u.pool ≡ length t.pool
+  pub listed : (x : Bytes) → Memᴰ x (pair_names left) → Memᴰ x (names h)
+  pub subgraph : u.sizes.subgraph + subgraph_more kind (length left) ≤ t.sizes.subgraph + subgraph_more kind (length (pairs_of kind h))
+  pub translation : u.sizes.translation + translation_more kind (length left) ≤ t.sizes.translation + translation_more kind (length (pairs_of kind h))
 
-pub putting_start : (kind : Kind) (t : Tables) (h : GraphName) → Kept t → Putting kind t h 0 t
+pub putting_start : (kind : Kind) (t : Tables) (h : GraphName) → Kept t → Putting kind t h (pairs_of kind h) t
 putting_start kind t h k = record {
   kept = k;
   good = λ own g. g;
   graph = refl;
   within = λ x m. (insert_all_members bytes_order (names h) (table_names t) x).1 (inr m);
+  listed = pair_listed h kind;
   subgraph = omega arith;
   translation = omega arith;
-  refs = refl;
-  subs = refl;
-  trans = refl;
-  pool = refl;
 }
 
-module _ (kind : Kind) (t : Tables) (h : GraphName) (start : Kept t) (i : ℕ) (u : Tables) (s : Putting kind t h i u) where
-  abbrev pairs : List Pair
-  pairs = pairs_of kind h
-
+module _ {kind : Kind} {t : Tables} {h : GraphName} {left : List Pair} {u : Tables} (s : Putting kind t h left u) where
   count_names : length (table_names u) ≡ u.sizes.names
   count_names = length_names u.pool u.sizes.names u.refs s.kept.count
 
@@ -143,79 +121,74 @@ module _ (kind : Kind) (t : Tables) (h : GraphName) (start : Kept t) (i : ℕ) (
   names_short : u.sizes.bytes ≤ length (bodies (all_of t h))
   names_short = omega (arith, shorter (table_names u) (all_of t h) s.kept.order s.within, s.kept.total)
 
-  -- room for the next
-  pub putting_room : (from to : Bytes) → MergeRoom t h (subgraph_more kind (length pairs)) (translation_more kind (length pairs)) → i < length pairs
-      → length from ≤ max_name_bytes → length to ≤ max_name_bytes → PairRoom u from to
-  putting_room from to r l f g = record {
-    from_short = f;
-    to_short = g;
-    count = omega (arith, names_few, r.count, s.refs);
-    room = omega (arith, names_short, r.room, s.pool);
-    subgraph = omega (arith, s.subgraph, r.subgraph, s.subs, less_subgraph kind i (length pairs) (omega arith));
-    translation = omega (arith, s.translation, r.translation, s.trans, less_translation kind i (length pairs) (omega arith));
+  pub putting_end : left ≡ [] → PairsPut kind t h u
+  putting_end e = record {
+    kept = s.kept;
+    good = s.good;
+    graph = rw e at s.graph;
+    within = s.within;
+    subgraph = omega (arith, s.subgraph);
+    translation = omega (arith, s.translation);
   }
 
-  pub putting_end : length pairs ≤ i → i ≤ length pairs → PairsPut kind t h u
-  putting_end l k =
-      let e : i ≡ length pairs = omega arith in
-      record {
-        kept = s.kept;
-        good = s.good;
-        graph = rw (drop_of_length-le pairs {i = i} l) at s.graph;
-        within = s.within;
-        subgraph = rw e at s.subgraph;
-        translation = rw e at s.translation;
-      }
+  module _ {p : Pair} {rest : List Pair} (e : left ≡ p ∷ rest) where
+    from_listed : Memᴰ p.from (names h)
+    from_listed = s.listed p.from (rw e (mathlib.Core.List.Memᴰ.head refl))
 
-  -- the next is in
-  pub putting_turn : (from to : Bytes) (w : Tables) → i < length pairs → get_or pairs i none_pair ≡ record { from = from; to = to } → PairPut kind u from to w
-      → length w.refs ≡ length u.refs → length w.subs ≡ length u.subs → length w.trans ≡ length u.trans → length w.pool ≡ length u.pool
-      → Putting kind t h (i + 1) w
-  putting_turn from to w l e p a b c d =
-      let q : Pair = record { from = from; to = to } in
-      let step : drop i pairs ≡ q ∷ drop (i + 1) pairs = drop-cons pairs i none_pair l ∙ rw (e, add-one i) in
-      record {
-        kept = p.kept;
-        good = λ own g. good_put own kind u w from to (s.good own g) p;
-        graph = ap (with_pairs kind (drop (i + 1) pairs)) p.graph ∙ rw step at s.graph;
-        within = inside;
-        subgraph =
-            omega (
-              arith,
-              with_subgraph kind q (graph_in u),
-              ap (λ (g : GraphName). length g.subgraph) p.graph,
-              count_subgraph u s.kept,
-              count_subgraph w p.kept,
-              s.subgraph,
-              more_subgraph kind i,
-            );
-        translation =
-            omega (
-              arith,
-              with_translation kind q (graph_in u),
-              ap (λ (g : GraphName). length g.translation) p.graph,
-              count_translation u s.kept,
-              count_translation w p.kept,
-              s.translation,
-              more_translation kind i,
-            );
-        refs = a ∙ s.refs;
-        subs = b ∙ s.subs;
-        trans = c ∙ s.trans;
-        pool = d ∙ s.pool;
-      }
-    where
-      listed : (x : Bytes) → (x ≡ from) ⊎ (x ≡ to) → Memᴰ x (all_of t h)
-      listed x n =
-          (insert_all_members bytes_order (names h) (table_names t) x).1
-          (inl (pair_listed h kind x (names_pair x pairs (get_or pairs i none_pair) (get_or_member none_pair pairs i l) (rw e n))))
+    to_listed : Memᴰ p.to (names h)
+    to_listed = s.listed p.to (rw e (mathlib.Core.List.Memᴰ.tail (mathlib.Core.List.Memᴰ.head refl)))
 
-      inside : (x : Bytes) → Memᴰ x (table_names w) → Memᴰ x (all_of t h)
-      inside x m =
-          ⊎_elim
-          (λ (d : x ≡ to). listed x (inr d))
-          (λ (n : Memᴰ x (insert compare_bytes from (table_names u))). ⊎_elim
-          (λ (d : x ≡ from). listed x (inl d))
-          (s.within x)
-          ((insert_members bytes_order from (table_names u) x).0 n))
-          ((insert_members bytes_order to (insert compare_bytes from (table_names u)) x).0 (rw p.names at m))
+    -- room for the next
+    pub putting_room : (n k m : ℕ) → any_long (names h) ≡ false
+        → MergeRoom n k m t h (subgraph_more kind (length (pairs_of kind h))) (translation_more kind (length (pairs_of kind h))) → PairRoom n k m u p.from p.to
+    putting_room n k m short r = record {
+      from_short = (short_names (names h)).0 short p.from from_listed;
+      to_short = (short_names (names h)).0 short p.to to_listed;
+      count = omega (arith, names_few, r.count);
+      room = omega (arith, names_short, r.room, (short_names (names h)).0 short p.from from_listed, (short_names (names h)).0 short p.to to_listed);
+      subgraph = omega (arith, s.subgraph, r.subgraph);
+      translation = omega (arith, s.translation, r.translation);
+    }
+
+    -- the next is in
+    pub putting_turn : (w : Tables) → PairPut kind u p.from p.to w → Putting kind t h rest w
+    putting_turn w q = record {
+      kept = q.kept;
+      good = λ own g. good_put own kind u w p.from p.to (s.good own g) q;
+      graph = ap (with_pairs kind rest) q.graph ∙ rw e at s.graph;
+      within = inside;
+      listed = λ x m. s.listed x (rw e (mathlib.Core.List.Memᴰ.tail (mathlib.Core.List.Memᴰ.tail m)));
+      subgraph =
+          omega (
+            arith,
+            with_subgraph kind p (graph_in u),
+            ap (λ (g : GraphName). length g.subgraph) q.graph,
+            count_subgraph u s.kept,
+            count_subgraph w q.kept,
+            rw e at s.subgraph,
+            more_subgraph kind (length rest),
+          );
+      translation =
+          omega (
+            arith,
+            with_translation kind p (graph_in u),
+            ap (λ (g : GraphName). length g.translation) q.graph,
+            count_translation u s.kept,
+            count_translation w q.kept,
+            rw e at s.translation,
+            more_translation kind (length rest),
+          );
+    }
+      where
+        listed : (x : Bytes) → Memᴰ x (names h) → Memᴰ x (all_of t h)
+        listed x m = (insert_all_members bytes_order (names h) (table_names t) x).1 (inl m)
+
+        inside : (x : Bytes) → Memᴰ x (table_names w) → Memᴰ x (all_of t h)
+        inside x m =
+            ⊎_elim
+            (λ (d : x ≡ p.to). listed x (rw d to_listed))
+            (λ (n : Memᴰ x (insert compare_bytes p.from (table_names u))). ⊎_elim
+            (λ (d : x ≡ p.from). listed x (rw d from_listed))
+            (s.within x)
+            ((insert_members bytes_order p.from (table_names u) x).0 n))
+            ((insert_members bytes_order p.to (insert compare_bytes p.from (table_names u)) x).0 (rw q.names at m))

@@ -1,17 +1,12 @@
 -- The sizes that tables are judged by, with an own name kept apart; and what can be stored.
-use Rattle.std.specs.Prelude.{◌≡◌, false, cond, ◌||◌, List, ℕ, suc, ◌≤◌, length, ltb, Option, Some, None}
+use Rattle.std.specs.Prelude.{◌≡◌, cond, ◌||◌, List, ℕ, suc, ◌≤◌, length, ltb, Option, Some, None}
 use Rattle.model.specs.Bytes.{Bytes, compare_bytes}
-use Rattle.model.specs.Record.{GraphName, insert, names, any_long, bodies, max_names, max_pairs, max_bodies_bytes}
+use Rattle.model.specs.Record.{insert, names, any_long, bodies, max_names, max_pairs, max_bodies_bytes}
 use Rattle.model.specs.Opening.{Given, number_of}
 use Rattle.model.specs.Outcome.{Outcome}
-use Rattle.model.specs.Statements.{Ascending}
 use Rattle.record.specs.Coded.{meaning}
-use Rattle.sorted.specs.declared.putting.Sizes.{Sizes}
-use Rattle.sorted.specs.Tables.{Tables, names_in, table_names, graph_in, read_out, Kept}
-
--- a graph name with this own name, or none
-abbrev pub owned : Option Bytes → GraphName → GraphName
-owned name g = record { name = name; subgraph = g.subgraph; translation = g.translation }
+use Rattle.sorted.specs.Tables.{Tables, table_names, read_out, Kept}
+use Rattle.sorted.specs.Loading.{Limited}
 
 -- the names, with an own name among them
 abbrev pub names_and : Option Bytes → List Bytes → List Bytes
@@ -36,31 +31,11 @@ abbrev pub numbered : Option ℕ → ℕ
 numbered None = 0
 numbered (Some place) = suc place
 
--- what is known of the names of tables
-pub record NamesKept (refs : List ℕ) (pool : Bytes) (sizes : Sizes) : Type 0 where
-  pub order : Ascending compare_bytes (names_in pool sizes.names refs)
-  pub short : any_long (names_in pool sizes.names refs) ≡ false
-  pub total : sizes.bytes ≡ length (bodies (names_in pool sizes.names refs))
-  pub count : sizes.names ≤ length refs
-  pub room : sizes.bytes ≤ length pool
-
--- every name is used, by the pairs or as this own name
-pub record Good (own : Option Bytes) (t : Tables) : Type 0 where
-  pub kept : Kept t
-  pub used : names (owned own (graph_in t)) ≡ table_names t
-
 -- the tables, with the own name of this number, are those of a graph name
 pub record Complete (t : Tables) (own : ℕ) : Type 0 where
   pub kept : Kept t
   pub own_within : own ≤ t.sizes.names
   pub used : names (meaning (read_out t own)) ≡ table_names t
-
--- these sizes are allowed
-pub record Limited (s : Sizes) : Type 0 where
-  pub names : s.names ≤ max_names
-  pub bytes : s.bytes ≤ max_bodies_bytes
-  pub subgraph : s.subgraph ≤ max_pairs
-  pub translation : s.translation ≤ max_pairs
 
 -- the tables, with the own name of this number, are those of a graph name within the sizes
 pub record Storable (t : Tables) (own : ℕ) : Type 0 where

@@ -1,4 +1,3 @@
--- The sizes, a record loaded, and the pairs of another put in.
+-- The sizes, and the pairs of a record put in.
 pub mod Judging
-pub mod Loading
 pub mod Merging

@@ -7,7 +7,7 @@ use Rattle.model.specs.Bytes.{Bytes, compare_bytes}
 use Rattle.model.specs.Record.{Pair, GraphName, insert_all, with_pair, names, bodies, max_name_bytes}
 use Rattle.model.specs.Questions.{pairs_of}
 use Rattle.sorted.specs.Tables.{Tables, table_names, graph_in, Kept}
-use Rattle.tables.specs.Judging.{Good}
+use Rattle.sorted.specs.Loading.{Good}
 
 -- pairs of a kind added, one after the other
 abbrev pub with_pairs : Kind → List Pair → GraphName → GraphName
@@ -27,12 +27,12 @@ translation_more Translation k = k
 abbrev pub all_of : Tables → GraphName → List Bytes
 all_of t h = insert_all compare_bytes (names h) (table_names t)
 
--- there is room for all names of h and for these many pairs, and for one pair more
-pub record MergeRoom (t : Tables) (h : GraphName) (s m : ℕ) : Type 0 where
-  pub count : length (all_of t h) + 1 < length t.refs
-  pub room : length (bodies (all_of t h)) + 2 * max_name_bytes ≤ length t.pool
-  pub subgraph : t.sizes.subgraph + s < length t.subs
-  pub translation : t.sizes.translation + m < length t.trans
+-- in tables for so many names, pairs of each kind and bytes there is room for all names of h and for these many pairs, and for one pair more
+pub record MergeRoom (names pairs bytes : ℕ) (t : Tables) (h : GraphName) (s m : ℕ) : Type 0 where
+  pub count : length (all_of t h) + 1 < names
+  pub room : length (bodies (all_of t h)) + 2 * max_name_bytes ≤ bytes
+  pub subgraph : t.sizes.subgraph + s < pairs
+  pub translation : t.sizes.translation + m < pairs
 
 -- u are the tables t with all pairs of a kind of h
 pub record PairsPut (kind : Kind) (t : Tables) (h : GraphName) (u : Tables) : Type 0 where

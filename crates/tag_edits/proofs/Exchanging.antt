@@ -8,7 +8,7 @@ use native.Mathlib.Omega.{arith}
 use lib.ListN.{length, take, drop, take-append-drop, length-append, length-drop}
 use lib.Seq.{length-take-le, drop-drop}
 use Rattle.model.specs.Bytes.{Bytes, put, pad_to}
-use Rattle.model.specs.Numbers.{le32, number32}
+use Rattle.model.specs.Numbers.{le32}
 use Rattle.model.specs.TagList.{Tag, tags_length, tag_entries, tag_bodies, tag_contents, encode_tags, shown_tags}
 use Rattle.text.specs.Blocks.{all_zero}
 use Rattle.block.specs.Splice.{spliced}
@@ -161,8 +161,8 @@ module _ (b : Bytes) (g : Gap) (entry t u : Bytes) (x : Exchange b g (length ent
   old = g.size
 
   -- the tags stand within the count that is read, and the count then follows from it
-  pub counts : (n : ℕ) → n ≡ number32 b 0 → (i + held ≤ n) × (n - held + length entry / 8 ≡ count_then held entry (shown_tags b))
-  counts n e = let c = e ∙ (holds b x.listed).count in (omega (arith, x.place), ap (λ (m : ℕ). m - held + length entry / 8) c)
+  pub counts : (n : ℕ) → n ≡ length (shown_tags b) → (i + held ≤ n) × (n - held + length entry / 8 ≡ count_then held entry (shown_tags b))
+  counts n e = (omega (arith, x.place), ap (λ (m : ℕ). m - held + length entry / 8) e)
 
   -- where the contents end, by parts
   ends : length (tag_contents (shown_tags b))

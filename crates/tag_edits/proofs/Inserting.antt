@@ -7,25 +7,24 @@ use Prim.Native.Nat.{ℕ, ◌+◌, ◌≤◌, ◌<◌}
 use native.Mathlib.Omega.{arith}
 use lib.ListN.{length}
 use lib.Dec.{leb}
-use Rattle.model.specs.declared.fault.Fault.TheVariants.{OutputShort, BadKey, LongValue, TagsFull}
+use Rattle.model.specs.declared.fault.Fault.TheVariants.{BadKey, LongValue, TagsFull}
 use borrow.Author.Tests.{le-leb, lt-leb}
 use Rattle.model.specs.declared.holdings.Part.{Part}
 use Rattle.model.specs.Bytes.{Bytes}
-use Rattle.model.specs.Numbers.{number32}
-use Rattle.model.specs.Opening.{and_then, is_some, settled}
+use Rattle.model.specs.Opening.{is_some}
 use Rattle.model.specs.Questions.{mapped}
 use Rattle.model.specs.Written.{fits}
-use Rattle.model.specs.TagList.{Tag, look_up, set_tag, remove_tag, max_tags, max_key, max_value, lower, fine_key, stored_key, tag_count_length, keys_after, shown_tags, decode_tags}
-use Rattle.model.specs.TagOutcome.{tag_list, ready_key, judged_tags, insert_in, remove_in}
+use Rattle.model.specs.TagList.{Tag, look_up, set_tag, max_tags, max_key, max_value, lower, fine_key, stored_key, tag_count_length, keys_after, shown_tags, decode_tags}
+use Rattle.model.specs.TagOutcome.{ready_key, judged_tags}
 use Rattle.model.specs.TagStatements.{part_in}
 use Rattle.tag_list.specs.Spot.{spot_in}
-use Rattle.tag_list.proofs.Asking.{list_opened, found_value, found_held}
+use Rattle.tag_list.proofs.Asking.{found_value, found_held}
 use Rattle.tag_list.proofs.Lowering.{lower_stored}
 use Rattle.tag_list.proofs.Parted.{part_behind, spot_value}
-use Rattle.tag_list.proofs.Ready.{list_refused, list_given}
+use Rattle.tag_list.proofs.Ready.{list_is, list_shown}
 use Rattle.tag_list.proofs.Standing.{stored_short}
 use Rattle.tag_list.proofs.Valid.{length_set}
-use Rattle.tag_list.proofs.Walk.{holds, list_size}
+use Rattle.tag_list.proofs.Walk.{holds}
 use Rattle.tag_edits.proofs.Outcome.{judged_gives, parts_look}
 use Rattle.tag_edits.proofs.Placed.{remove_none}
 
@@ -65,30 +64,6 @@ module _ (key k : Bytes) (e : ready_key key ≡ Ok k) where
   pub ready_short : length k ≤ max_key
   ready_short = stored_short k ready_stored
 
--- the list first, then the key
-module _ (b key : Bytes) where
-  pub insert_asked : (value : Bytes) → insert_in b key value
-      ≡ and_then (settled (tag_list b)) λ _. and_then (ready_key key) λ k. judged_tags (leb (length value) max_value) (set_tag k value (shown_tags b))
-  unfolding insert_in
-  insert_asked value = go (is_some (decode_tags b)) refl
-    where
-      go : (t : Bool) → is_some (decode_tags b) ≡ t → insert_in b key value
-          ≡ and_then (settled (tag_list b)) λ _. and_then (ready_key key) λ k. judged_tags (leb (length value) max_value) (set_tag k value (shown_tags b))
-      go true d = rw (list_given b d)
-      go false d = rw (list_refused b d)
-
-  pub remove_asked : (room : ℕ) → remove_in b key room
-      ≡ and_then (settled (tag_list b)) λ _. and_then (ready_key key) λ k.
-      cond (fits (look_up k (shown_tags b)) room) (Ok (record { value = look_up k (shown_tags b); rest = remove_tag k (shown_tags b) })) (Err OutputShort)
-  unfolding remove_in
-  remove_asked room = go (is_some (decode_tags b)) refl
-    where
-      go : (t : Bool) → is_some (decode_tags b) ≡ t → remove_in b key room
-          ≡ and_then (settled (tag_list b)) λ _. and_then (ready_key key) λ k.
-          cond (fits (look_up k (shown_tags b)) room) (Ok (record { value = look_up k (shown_tags b); rest = remove_tag k (shown_tags b) })) (Err OutputShort)
-      go true d = rw (list_given b d)
-      go false d = rw (list_refused b d)
-
 module _ (b : Bytes) (d : is_some (decode_tags b) ≡ true) (k : Bytes) where
   -- ------------------------------------------------------------------ insertion
 
@@ -99,17 +74,17 @@ module _ (b : Bytes) (d : is_some (decode_tags b) ≡ true) (k : Bytes) where
         length_set k value ts (holds b d).valid.order ∙ ap (λ (t : Bool). cond t (length ts) (length ts + 1)) (sym (found_held b d k))
 
     -- a new key where there is no room for one
-    pub set_full : (spot_in k b).value ≡ None → max_tags ≤ number32 b 0 → max_tags < length (set_tag k value (shown_tags b))
-    set_full e h = omega (arith, rw e at set_length, (holds b d).count)
+    pub set_full : (spot_in k b).value ≡ None → max_tags ≤ length (shown_tags b) → max_tags < length (set_tag k value (shown_tags b))
+    set_full e h = omega (arith, rw e at set_length)
 
     -- a new key where there is room, and a held key
-    pub set_new : number32 b 0 < max_tags → length (set_tag k value (shown_tags b)) ≤ max_tags
+    pub set_new : length (shown_tags b) < max_tags → length (set_tag k value (shown_tags b)) ≤ max_tags
     set_new h = go (is_some (spot_in k b).value) set_length
       where
         go : (t : Bool) → length (set_tag k value (shown_tags b)) ≡ cond t (length (shown_tags b)) (length (shown_tags b) + 1)
             → length (set_tag k value (shown_tags b)) ≤ max_tags
-        go true n = omega (arith, (holds b d).count)
-        go false n = omega (arith, (holds b d).count)
+        go true n = omega arith
+        go false n = omega arith
 
     pub set_held : (p : Part) → (spot_in k b).value ≡ Some p → length (set_tag k value (shown_tags b)) ≤ max_tags
     set_held p e = omega (arith, rw e at set_length, (holds b d).valid.count)
@@ -154,6 +129,6 @@ module _ (b : Bytes) (d : is_some (decode_tags b) ≡ true) (k : Bytes) where
     pub value_overflows : (room : ℕ) → room < p.size → fits (look_up k (shown_tags b)) room ≡ false
     value_overflows room h = value_room room ∙ lt-leb p.size room h
 
-pub ruleset inserting = (insert_asked, list_opened, list_size, ready_stored, value_long, value_many, value_done, set_full, set_new, set_held)
+pub ruleset inserting = (list_is, list_shown, ready_stored, value_long, value_many, value_done, set_full, set_new, set_held)
 
-pub ruleset removing = (remove_asked, list_opened, list_size, ready_short, look_absent, look_held, look_size, value_fits, value_overflows, remove_none)
+pub ruleset removing = (list_is, list_shown, ready_short, look_absent, look_held, look_size, value_fits, value_overflows, remove_none)

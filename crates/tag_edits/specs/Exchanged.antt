@@ -5,7 +5,7 @@ use Rattle.model.specs.Bytes.{Bytes}
 use Rattle.model.specs.Numbers.{le32}
 use Rattle.model.specs.Opening.{is_some}
 use Rattle.model.specs.TagList.{Tag, tag_entry_length, tags_length, tag_entries, tag_bodies, tag_contents, keys_after, shown_tags, decode_tags}
-use Rattle.tag_list.specs.declared.finding.Found.{Found}
+use Rattle.tag_list.specs.declared.list.Found.{Found}
 use Rattle.tag_edits.specs.declared.exchange.Gap.{Gap}
 
 -- one tag, where its value is found, or none

@@ -7,11 +7,12 @@ ghost use Rattle.model.specs.TagList.{set_tag, remove_tag, max_key, max_tags, ma
 ghost use Rattle.tag_list.specs.Spot.{spot_in};
 ghost use Rattle.tag_edits.specs.Exchanged.{exchanged, size_of, gap_of, Exchange};
 
-use block::{read32, splice, write32};
-use tag_list::{Found, TAG_ENTRY_LENGTH, contents_end, entry_start};
+use block::{splice, write32};
+use tag_list::{Found, TAG_ENTRY_LENGTH, TagList, entry_start};
 use text::filled;
 
-// What is exchanged: the `held` tags at a place, whose keys and values are so many bytes from `start` on.
+// What is exchanged: the `held` tags at a place, whose keys and values are so many bytes from `start` on. How many is a number, since so many
+// entries are taken out.
 #[derive(Clone, Copy)]
 struct Gap {
     place: usize,
@@ -43,8 +44,9 @@ fn exchange(list: &mut [u8], gap: Gap, entry: &[u8], t: &[u8], u: &[u8])
     requires { Exchange list.old gap (length entry.now) (length t.now + length u.now) }
     ensures { list.new ≡ pad_to tags_length (exchanged gap entry.now (t.now ++ u.now) (shown_tags list.old)) }
 {
-    let end = contents_end(list);
-    let count = read32(list, 0) - gap.held + entry.len() / TAG_ENTRY_LENGTH;
+    let tags = TagList::of(list);
+    let end = tags.contents_end();
+    let count = tags.count() - gap.held + entry.len() / TAG_ENTRY_LENGTH;
     splice(list, end, gap.start, gap.size, t, u);
     splice(
         list,
@@ -67,10 +69,11 @@ fn entry_of(key: usize, value: usize) -> [u8; TAG_ENTRY_LENGTH]
     entry
 }
 
-// Sets the tag of a key, which was found where it stands or would, to a value.
+// Sets the tag of a key, which was found where it stands or would, to a value. The list is lent by itself, known to be one: a struct that
+// holds the list to be changed was tried, and what its bytes are after a call could not be shown.
 #[tactic(auto, using(crate::proofs::Placed::placed))]
 pub fn set(list: &mut [u8], found: Found, key: &[u8], value: &[u8])
-    requires { (is_some (decode_tags list.old) ≡ true) × (found ≡ spot_in key.now list.old) × (stored_key key.now ≡ true) × (length value.now ≤ max_value)
+    requires { (is_some (decode_tags list.old) ≡ true) × (gap_of found (length key.now) ≡ gap_of (spot_in key.now list.old) (length key.now)) × (stored_key key.now ≡ true) × (length value.now ≤ max_value)
         × (length (set_tag key.now value.now (shown_tags list.old)) ≤ max_tags) }
     ensures { list.new ≡ encode_tags (set_tag key.now value.now (shown_tags list.old)) }
 {
@@ -81,7 +84,7 @@ pub fn set(list: &mut [u8], found: Found, key: &[u8], value: &[u8])
 // Removes the tag of a key, which was found where it stands or would, if the list holds it.
 #[tactic(auto, using(crate::proofs::Placed::placed))]
 pub fn delete(list: &mut [u8], found: Found, key: &[u8])
-    requires { (is_some (decode_tags list.old) ≡ true) × (found ≡ spot_in key.now list.old) × (length key.now ≤ max_key) }
+    requires { (is_some (decode_tags list.old) ≡ true) × (gap_of found (length key.now) ≡ gap_of (spot_in key.now list.old) (length key.now)) × (length key.now ≤ max_key) }
     ensures { list.new ≡ encode_tags (remove_tag key.now (shown_tags list.old)) }
 {
     exchange(list, gap_at(found, key.len()), b"", b"", b"");

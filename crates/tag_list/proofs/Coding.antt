@@ -3,6 +3,7 @@ use mathlib.Core.Path.{◌≡◌, refl, sym, ap, ap₂, ◌∙◌}
 use mathlib.Core.Bool.{Bool, true, false, cond, ◌&&◌, false≢true}
 use mathlib.Core.List.{List, [], ◌∷◌, ◌++◌}
 use Rattle.std.specs.Prelude.{Option, Some, None}
+use Rattle.std.proofs.lemmas.Bool.{and_parts}
 use Prim.Native.Nat.{ℕ, suc, ◌+◌}
 use native.Mathlib.Omega.{arith}
 use lib.ListN.{length, take, drop}
@@ -12,7 +13,6 @@ use Rattle.model.specs.Numbers.{number32}
 use Rattle.model.specs.Opening.{is_some}
 use Rattle.model.specs.TagList.{Tag, tag, all_stored, is_tag_list, tag_count_length, tags_length, tag_entries, tag_bodies, encode_tags, keys_after, tags_in, shown_tags, decode_tags}
 use Rattle.model.specs.TagStatements.{ValidTags, TagsEncoded, TagsDecoded}
-use Rattle.text.proofs.Tests.{both_true}
 use Rattle.text.proofs.Order.{same_bytes_refl, same_bytes_true}
 use Rattle.tag_list.proofs.Valid.{valid_true}
 use Rattle.tag_list.proofs.Standing.{stored_first, first_key_size, first_value_size, drop_entry, bodies_first, Stands, length_encoded, count_encoded, encoded_stands}
@@ -72,7 +72,7 @@ decode_shown b ts e = (decode_passes b ts e).1
 pub tags_decoded : TagsDecoded
 tags_decoded b ts e =
     let (t, s) = decode_passes b ts e in
-    let p = both_true (is_tag_list (shown_tags b)) (same_bytes (encode_tags (shown_tags b)) b) t in
+    let p = and_parts (is_tag_list (shown_tags b)) (same_bytes (encode_tags (shown_tags b)) b) t in
     (rw s at ((valid_true (shown_tags b)).0 p.0), sym (rw s at ((same_bytes_true (encode_tags (shown_tags b)) b).0 p.1)))
 
 pub decode_is : (b : Bytes) → is_some (decode_tags b) ≡ true → decode_tags b ≡ Some (shown_tags b)

@@ -4,7 +4,7 @@ use mathlib.Core.Bool.{Bool, true, false, cond, ◌&&◌}
 use mathlib.Core.List.{[], ◌∷◌, ◌++◌, map}
 use Prim.Native.Nat.{ℕ, zero, suc, ◌+◌, ◌≤◌, ◌<◌}
 use native.Mathlib.Omega.{arith}
-use lib.ListN.{length, take, get_or, length-take, length-replicate}
+use lib.ListN.{length, take, get_or}
 use lib.Seq.{take_at}
 use lib.Dec.{leb}
 use borrow.Author.Tests.{leb-true, le-leb, lt-leb}
@@ -13,12 +13,12 @@ use Rattle.std.specs.Char.{to_ascii_lowercase}
 use Rattle.std.specs.List.{list_all}
 use Rattle.std.specs.Str.{IsAscii, IsNotAscii}
 use Rattle.std.proofs.lemmas.Bool.Decides.{nat_tests}
+use Rattle.std.proofs.lemmas.Bool.{and_parts}
 use Rattle.std.specs.Prelude.{Ok, Err}
 use Rattle.model.specs.declared.fault.Fault.TheVariants.{BadKey}
 use Rattle.model.specs.Bytes.{Bytes, every_byte}
 use Rattle.model.specs.TagList.{max_key, capital, key_byte, stored_byte, lower, fine_key, stored_key}
 use Rattle.model.specs.TagOutcome.{ready_key}
-use Rattle.text.proofs.Tests.{both_true}
 use Rattle.tag_list.proofs.Lowering.{length_lower}
 
 every_all : (is_of : ℕ → Bool) (k : Bytes) → list_all is_of k ≡ every_byte is_of k
@@ -67,7 +67,7 @@ pub ruleset fine = (fine_long, fine_short)
 -- a key that may come is short
 pub fine_length : (k : Bytes) → fine_key k ≡ true → length k ≤ max_key
 unfolding fine_key
-fine_length k e = leb-true (length k) max_key (both_true (leb (length k) max_key) (every_byte key_byte k) e).0
+fine_length k e = leb-true (length k) max_key (and_parts (leb (length k) max_key) (every_byte key_byte k) e).0
 
 -- ------------------------------------------------------------------ lowering
 
@@ -96,4 +96,4 @@ module _ (k : Bytes) where
       let n : length o ≡ length k = ap length l ∙ length_lower k in
       rw (key_ready f, take_at o r (length k) n, l)
 
-pub ruleset ready = (key_refused, fine_length, front_ready, length-replicate, length-take)
+pub ruleset ready = (key_refused, fine_length, front_ready)

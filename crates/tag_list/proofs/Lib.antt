@@ -9,6 +9,7 @@ pub mod Valid
 pub mod Steps
 pub mod Standing
 pub mod Coding
+pub mod Listing
 pub mod Walk
 pub mod Passing
 pub mod Tested

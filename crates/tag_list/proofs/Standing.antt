@@ -9,6 +9,7 @@ use lib.ListN.{length, take, drop, replicate, length-append, length-drop}
 use lib.Dec.{leb}
 use lib.Seq.{take_at, drop_at, drop-drop}
 use borrow.Author.Tests.{leb-true, le-leb}
+use Rattle.std.proofs.lemmas.Bool.{and_parts}
 use Rattle.model.specs.Bytes.{Bytes, every_byte}
 use Rattle.model.specs.Numbers.{le32, number32}
 use Rattle.model.specs.Record.{ascends}
@@ -17,7 +18,6 @@ use Rattle.model.specs.TagList.{Tag, compare_tags, max_tags, max_key, max_value,
 use Rattle.model.specs.TagStatements.{ValidTags}
 use Rattle.block.proofs.Numbers32.{number32_le32, number32_drop, number32_drop_4}
 use Rattle.block.proofs.Spliced.{length_pad_to}
-use Rattle.text.proofs.Tests.{both_true}
 use Rattle.text.proofs.Ascending.{ascends_true}
 use Rattle.tag_list.proofs.Bodies.{length_tag_bodies, length_tag_entries}
 use Rattle.tag_list.proofs.Valid.{valid_true}
@@ -26,7 +26,7 @@ use Rattle.tag_list.proofs.Valid.{valid_true}
 
 pub stored_short : (k : Bytes) → stored_key k ≡ true → length k ≤ max_key
 unfolding stored_key
-stored_short k e = leb-true (length k) max_key (both_true (leb (length k) max_key) (every_byte stored_byte k) e).0
+stored_short k e = leb-true (length k) max_key (and_parts (leb (length k) max_key) (every_byte stored_byte k) e).0
 
 -- the first of stored tags is stored, and so are the others
 pub record StoredFirst (t : Tag) (ts : List Tag) : Type 0 where
@@ -38,8 +38,8 @@ pub record StoredFirst (t : Tag) (ts : List Tag) : Type 0 where
 pub stored_first : (t : Tag) (ts : List Tag) → all_stored (t ∷ ts) ≡ true → StoredFirst t ts
 unfolding all_stored
 stored_first t ts e =
-    let p = both_true (stored_key t.key) (leb (length t.value) max_value && all_stored ts) e in
-    let q = both_true (leb (length t.value) max_value) (all_stored ts) p.1 in
+    let p = and_parts (stored_key t.key) (leb (length t.value) max_value && all_stored ts) e in
+    let q = and_parts (leb (length t.value) max_value) (all_stored ts) p.1 in
     record {
       stored_key_lem = p.0;
       key_short = stored_short t.key p.0;
@@ -50,8 +50,8 @@ stored_first t ts e =
 pub valid_stored : (ts : List Tag) → ValidTags ts → all_stored ts ≡ true
 unfolding is_tag_list
 valid_stored ts v =
-    let p = both_true (leb (length ts) max_tags) (ascends compare_tags ts && all_stored ts) ((valid_true ts).1 v) in
-    (both_true (ascends compare_tags ts) (all_stored ts) p.1).1
+    let p = and_parts (leb (length ts) max_tags) (ascends compare_tags ts && all_stored ts) ((valid_true ts).1 v) in
+    (and_parts (ascends compare_tags ts) (all_stored ts) p.1).1
 
 pub valid_of : (ts : List Tag) → length ts ≤ max_tags → Ascending compare_tags ts → all_stored ts ≡ true → ValidTags ts
 valid_of ts few asc stored =

@@ -9,13 +9,13 @@ use native.Mathlib.Omega.{arith}
 use lib.ListN.{length, length-append}
 use lib.Dec.{leb}
 use borrow.Author.Tests.{leb-true, le-leb}
+use Rattle.std.proofs.lemmas.Bool.{and_parts}
 use Rattle.model.specs.Bytes.{Bytes}
 use Rattle.model.specs.Record.{ascends}
 use Rattle.model.specs.Opening.{is_some}
 use Rattle.model.specs.Statements.{Ascending}
 use Rattle.model.specs.TagList.{Tag, tag, compare_tags, look_up, set_tag, remove_tag, max_tags, max_value, stored_key, all_stored, is_tag_list}
 use Rattle.model.specs.TagStatements.{ValidTags}
-use Rattle.text.proofs.Tests.{both_true}
 use Rattle.text.proofs.Ascending.{ascends_true}
 use Rattle.tag_list.proofs.Map.{set_member, set_kept, remove_member, remove_kept}
 use Rattle.tag_list.proofs.Parted.{Parted, parted, value_held}
@@ -73,8 +73,8 @@ unfolding all_stored
 all_stored_true [] = (λ e t m. absurd (Memᴰ.not-nil m), λ h. refl)
 all_stored_true (u ∷ us) = (
   λ e t m.
-      let p = both_true _ _ e in
-      let q = both_true _ _ p.1 in
+      let p = and_parts _ _ e in
+      let q = and_parts _ _ p.1 in
       ⊎_elim
       (λ (d : t ≡ u). rw d (p.0, leb-true (length u.value) max_value q.0))
       ((all_stored_true us).0 q.1 t)
@@ -88,8 +88,8 @@ pub valid_true : (ts : List Tag) → is_tag_list ts ≡ true ↔ ValidTags ts
 unfolding is_tag_list
 valid_true ts = (
   λ e.
-      let p = both_true (leb (length ts) max_tags) (ascends compare_tags ts && all_stored ts) e in
-      let q = both_true (ascends compare_tags ts) (all_stored ts) p.1 in
+      let p = and_parts (leb (length ts) max_tags) (ascends compare_tags ts && all_stored ts) e in
+      let q = and_parts (ascends compare_tags ts) (all_stored ts) p.1 in
       let stored = (all_stored_true ts).0 q.1 in
       record {
         count = leb-true (length ts) max_tags p.0;

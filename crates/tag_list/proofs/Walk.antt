@@ -1,27 +1,28 @@
--- A walk over the tags of a block: what a block that is a tag list holds, what is read at a place, and what the search for a key and for a
--- place then know.
-use mathlib.Core.Path.{◌≡◌, refl, ap, ◌∙◌}
+-- A walk over the tags of a block: what a block that is a tag list holds, where the tags that are left of it stand, and what the search for a
+-- key then knows.
+use mathlib.Core.Path.{◌≡◌, refl, sym, ap, ◌∙◌}
 use mathlib.Core.Bool.{true}
-use mathlib.Core.List.{List, [], ◌∷◌, ◌++◌}
-use Rattle.std.specs.Prelude.{Some, None}
-use Prim.Native.Nat.{ℕ, zero, suc, ◌+◌, ◌-◌, ◌≤◌, ◌<◌}
+use mathlib.Core.List.{List, [], ◌∷◌}
+use Rattle.std.specs.Prelude.{Option, Some, None, slice_get}
+use Rattle.std.specs.Option.{option_map}
+use Prim.Native.Nat.{ℕ, zero, suc, ◌+◌, ◌≤◌}
 use native.Mathlib.Omega.{arith}
-use native.Mathlib.Nat.{add-zero}
-use native.Mathlib.Numerals.{add-one}
-use lib.ListN.{length, take, drop, get_or, length-append, drop_of_length-le}
-use lib.Seq.{take-length, drop-cons, take-suc}
+use lib.ListN.{length}
 use Rattle.std.specs.declared.cmp.Ordering.TheVariants.{Less, Equal, Greater}
 use Rattle.model.specs.Bytes.{Bytes, compare_bytes}
 use Rattle.model.specs.Numbers.{number32}
 use Rattle.model.specs.Opening.{is_some}
-use Rattle.model.specs.TagList.{Tag, tag, max_tags, tag_count_length, tags_length, tag_bodies, tag_contents, keys_after, encode_tags, shown_tags, decode_tags}
+use Rattle.model.specs.TagList.{Tag, max_tags, tag_count_length, tags_length, tag_bodies, tag_contents, keys_after, encode_tags, shown_tags, decode_tags}
+use Rattle.model.specs.declared.holdings.TagParts.{TagParts}
 use Rattle.model.specs.TagOutcome.{parts_of, behind, parts_at}
 use Rattle.model.specs.TagStatements.{ValidTags}
-use Rattle.tag_list.specs.Parts.{parts_read, parts_end}
-use Rattle.tag_list.specs.Spot.{spot}
-use Rattle.tag_list.proofs.Bodies.{tag_bodies_append, length_tag_bodies}
-use Rattle.tag_list.proofs.Standing.{Stands, stands_first, length_contents, length_encoded, count_encoded, encoded_stands}
+use Rattle.tag_list.specs.Parts.{key_in, parts_end}
+use Rattle.tag_list.specs.Tags.{parts_from, all_parts}
+use Rattle.tag_list.specs.Spot.{spot, spot_in}
+use Rattle.tag_list.proofs.Bodies.{length_tag_bodies}
+use Rattle.tag_list.proofs.Standing.{Stands, stands_first, length_contents, contents_within, length_encoded, count_encoded, encoded_stands}
 use Rattle.tag_list.proofs.Coding.{tags_decoded, decode_is}
+use Rattle.tag_list.proofs.Listing.{parts_stand}
 
 -- b is the block of ts
 pub record Holds (b : Bytes) (ts : List Tag) : Type 0 where
@@ -56,147 +57,147 @@ module _ (b : Bytes) (e : is_some (decode_tags b) ≡ true) where
   pub list_stands : Stands b tag_count_length (keys_after (length (shown_tags b))) (shown_tags b)
   list_stands = (holds b e).stands
 
--- ------------------------------------------------------------------ one turn
+-- ------------------------------------------------------------------ the tags one by one
 
--- the tag at place i, whose key stands at q
-record Turn (b : Bytes) (ts : List Tag) (i q : ℕ) : Type 0 where
+module _ (b : Bytes) (e : is_some (decode_tags b) ≡ true) where
+  pub list_parts : parts_from b 0 (keys_after (length (shown_tags b))) (length (shown_tags b)) ≡ all_parts (keys_after (length (shown_tags b))) (shown_tags b)
+  list_parts = parts_stand b 0 (keys_after (length (shown_tags b))) (shown_tags b) (list_stands b e)
+
+  pub list_within : length (tag_contents (shown_tags b)) ≤ tags_length
+  list_within = contents_within (shown_tags b) (holds b e).valid
+
+pub ruleset held = (list_size, list_count, list_few, list_parts, list_within)
+
+-- the first of the parts of tags is that of the first tag
+record FirstOf (t : TagParts) (ps : List TagParts) (q : ℕ) (ts : List Tag) : Type 0 where
   this : Tag
-  left : drop i ts ≡ this ∷ drop (i + 1) ts
-  taken : take (i + 1) ts ≡ take i ts ++ (this ∷ [])
-  key_size : number32 b (keys_after i) ≡ length this.key
-  value_size : number32 b (keys_after i + 4) ≡ length this.value
-  key : take (number32 b (keys_after i)) (drop q b) ≡ this.key
-  next : Stands b (keys_after (i + 1)) (behind q this) (drop (i + 1) ts)
+  others : List Tag
+  whole : ts ≡ this ∷ others
+  first : t ≡ parts_of q this
+  rest : ps ≡ all_parts (behind q this) others
 
-turn : (b : Bytes) (ts : List Tag) (i q : ℕ) → i < length ts → Stands b (keys_after i) q (drop i ts) → Turn b ts i q
-turn b ts i q h s =
-    let None = tag [] [] in
-    let e : drop i ts ≡ get_or ts i None ∷ drop (i + 1) ts = rw add-one (drop-cons ts i None h) in
-    let f = stands_first (rw e at s) in
-    let p : keys_after i + 8 ≡ keys_after (i + 1) = omega arith in
-    record {
-      this = get_or ts i None;
-      left = e;
-      taken = rw add-one (take-suc ts i None h);
-      key_size = f.key_size;
-      value_size = f.value_size;
-      key = rw f.key_size f.key;
-      next = rw (← p) f.next;
-    }
+first_of : (t : TagParts) (ps : List TagParts) (q : ℕ) (ts : List Tag) → all_parts q ts ≡ t ∷ ps → FirstOf t ps q ts
+unfolding all_parts
+first_of t ps q [] e = cc
+first_of t ps q (u ∷ us) e = record { this = u; others = us; whole = refl; first = cc; rest = cc }
 
-pub no_bodies : length (tag_bodies []) ≡ 0
+none_of : (q : ℕ) (ts : List Tag) → all_parts q ts ≡ [] → ts ≡ []
+unfolding all_parts
+none_of q [] e = refl
+none_of q (t ∷ ts) e = cc
+
+parts_get : (q : ℕ) (ts : List Tag) (i : ℕ) → slice_get (all_parts q ts) i ≡ parts_at q ts i
+unfolding all_parts parts_at
+parts_get q [] i = refl
+parts_get q (t ∷ ts) zero = refl
+parts_get q (t ∷ ts) (suc i) = parts_get (behind q t) ts i
+
+pub parts_place : (q : ℕ) (ts : List Tag) (i : ℕ) (r : Option TagParts) → option_map (λ x. x) r ≡ slice_get (all_parts q ts) i → r ≡ parts_at q ts i
+parts_place q ts i None e = e ∙ parts_get q ts i
+parts_place q ts i (Some t) e = e ∙ parts_get q ts i
+
+no_bodies : length (tag_bodies []) ≡ 0
 unfolding tag_bodies
 no_bodies = refl
 
-module _ (b : Bytes) (ts : List Tag) (i q : ℕ) (h : i < length ts) (s : Stands b (keys_after i) q (drop i ts)) where
-  pub turn_within : (keys_after (i + 1) ≤ length b) × (q ≤ length b)
-  turn_within = ((turn b ts i q h s).next.within.0, s.within.1)
+-- the parts left are of tags whose keys and values stand from byte q on, up to byte `end`
+pub record Left (ps : List TagParts) (q end : ℕ) : Type 0 where
+  pub tags : List Tag
+  pub parts : ps ≡ all_parts q tags
+  pub ends : q + length (tag_bodies tags) ≡ end
 
-  pub turn_next : Stands b (keys_after (i + 1)) (parts_end (parts_read b (keys_after i) q)) (drop (i + 1) ts)
-  turn_next = let t = turn b ts i q h s in rw (t.key_size, t.value_size) t.next
+pub left_all : {ps : List TagParts} (ts : List Tag) → ps ≡ all_parts (keys_after (length ts)) ts → Left ps (keys_after (length ts)) (length (tag_contents ts))
+left_all ts e = record { tags = ts; parts = e; ends = omega (arith, length_contents ts) }
 
-  -- how much the keys and values grow by this one
-  pub turn_bodies : q + length (tag_bodies (take (i + 1) ts)) ≡ parts_end (parts_read b (keys_after i) q) + length (tag_bodies (take i ts))
-  turn_bodies =
-      let t = turn b ts i q h s in
-      omega (
-        arith,
-        t.key_size,
-        t.value_size,
-        ap (λ (us : List Tag). length (tag_bodies us)) t.taken,
-        ap length (tag_bodies_append (take i ts) (t.this ∷ [])),
-        length-append (tag_bodies (take i ts)) (tag_bodies (t.this ∷ [])),
-        length_tag_bodies t.this [],
-        no_bodies,
-      )
+module _ {ps : List TagParts} {q end : ℕ} (l : Left ps q end) where
+  pub left_none : ps ≡ [] → q ≡ end
+  left_none z = omega (arith, l.ends, ap (λ (ts : List Tag). length (tag_bodies ts)) (none_of q l.tags (sym l.parts ∙ z)), no_bodies)
 
-  -- ------------------------------------------------------------------ the search for a key
+  module _ {t : TagParts} {rest : List TagParts} (e : ps ≡ t ∷ rest) where
+    pub left_within : parts_end t ≤ end
+    left_within =
+        let f = first_of t rest q l.tags (sym l.parts ∙ e) in
+        rw f.first (omega (arith, l.ends, ap (λ (ts : List Tag). length (tag_bodies ts)) f.whole, length_tag_bodies f.this f.others))
 
-  module _ (key : Bytes) where
-    pub spot_less : compare_bytes key (take (number32 b (keys_after i)) (drop q b)) ≡ Less
-        → spot key i q (drop i ts) ≡ record { place = i; start = q; value = None }
-    unfolding spot
-    spot_less o = let t = turn b ts i q h s in rw (t.left, ← t.key, o)
+    pub left_more : {next : ℕ} → next ≡ parts_end t → Left rest next end
+    left_more n =
+        let f = first_of t rest q l.tags (sym l.parts ∙ e) in
+        rw (n, f.first) record {
+          tags = f.others;
+          parts = f.rest;
+          ends = omega (arith, l.ends, ap (λ (ts : List Tag). length (tag_bodies ts)) f.whole, length_tag_bodies f.this f.others);
+        }
 
-    pub spot_equal : compare_bytes key (take (number32 b (keys_after i)) (drop q b)) ≡ Equal
-        → spot key i q (drop i ts) ≡ record { place = i; start = q; value = Some (parts_read b (keys_after i) q).value }
-    unfolding spot
-    spot_equal o = let t = turn b ts i q h s in let e = rw t.key at o in rw (t.left, e, t.key_size, t.value_size)
+-- ------------------------------------------------------------------ the search for a key
 
-    pub spot_greater : compare_bytes key (take (number32 b (keys_after i)) (drop q b)) ≡ Greater
-        → spot key i q (drop i ts) ≡ spot key (i + 1) (parts_end (parts_read b (keys_after i) q)) (drop (i + 1) ts)
-    unfolding spot
-    spot_greater o = let t = turn b ts i q h s in let e = rw t.key at o in rw (t.left, e, t.key_size, t.value_size)
+-- at the first tag: it stops before it or at it, or goes on
+module _ (key : Bytes) (i q : ℕ) (t : Tag) (ts : List Tag) where
+  spot_less : compare_bytes key t.key ≡ Less → spot key i q (t ∷ ts) ≡ record { place = i; start = q; value = None }
+  unfolding spot
+  spot_less o = rw o
 
-pub spot_end : (key : Bytes) (ts : List Tag) (i q : ℕ) → length ts ≤ i → spot key i q (drop i ts) ≡ record { place = i; start = q; value = None }
-unfolding spot
-spot_end key ts i q h = rw (drop_of_length-le ts h)
+  spot_equal : compare_bytes key t.key ≡ Equal → spot key i q (t ∷ ts) ≡ record { place = i; start = q; value = Some (parts_of q t).value }
+  unfolding spot
+  spot_equal o = rw o
 
-pub ruleset walk = (list_size, list_count, list_few, list_stands, turn_within, turn_next)
+  spot_greater : compare_bytes key t.key ≡ Greater → spot key i q (t ∷ ts) ≡ spot key (i + 1) (behind q t) ts
+  unfolding spot
+  spot_greater o = rw o
 
-pub ruleset search_key = (spot_less, spot_equal, spot_greater, spot_end)
+-- the tags left, from place i on, in which the key is where it is among all
+pub record Ahead (key b : Bytes) (i : ℕ) (ps : List TagParts) : Type 0 where
+  pub start : ℕ
+  pub left : Left ps start (length (tag_contents (shown_tags b)))
+  pub stands : Stands b (keys_after i) start left.tags
+  pub counted : i + length left.tags ≡ length (shown_tags b)
+  pub found : spot_in key b ≡ spot key i start left.tags
 
--- ------------------------------------------------------------------ the tag at a place
+pub ahead_all : (key b : Bytes) → is_some (decode_tags b) ≡ true → {ps : List TagParts} → ps ≡ all_parts (keys_after (length (shown_tags b))) (shown_tags b) → Ahead key b 0 ps
+unfolding left_all
+ahead_all key b d e = record {
+  start = keys_after (length (shown_tags b));
+  left = left_all (shown_tags b) e;
+  stands = list_stands b d;
+  counted = omega arith;
+  found = refl;
+}
 
-parts_past : (q : ℕ) (ts : List Tag) (i : ℕ) → length ts ≤ i → parts_at q ts i ≡ None
-unfolding parts_at
-parts_past q [] i h = refl
-parts_past q (t ∷ ts) i h =
-    let s : i ≡ suc (i - 1) = omega arith in
-    rw s (parts_past (behind q t) ts (i - 1) (omega arith))
+module _ {key b : Bytes} {i : ℕ} {ps : List TagParts} (a : Ahead key b i ps) where
+  pub ahead_none : ps ≡ [] → {place end : ℕ} → place ≡ length (shown_tags b) → end ≡ length (tag_contents (shown_tags b))
+      → record { place = place; start = end; value = None } ≡ spot_in key b
+  unfolding spot
+  ahead_none z p e =
+      let n = none_of a.start a.left.tags (sym a.left.parts ∙ z) in
+      let c : i ≡ length (shown_tags b) = omega (arith, a.counted, ap length n) in
+      sym (a.found ∙ rw (n, left_none a.left z, c, p, e))
 
-parts_within : (q : ℕ) (ts : List Tag) (i : ℕ) (t : Tag) (us : List Tag) → drop i ts ≡ t ∷ us
-    → parts_at q ts i ≡ Some (parts_of (q + length (tag_bodies (take i ts))) t)
-unfolding parts_at tag_bodies
-parts_within q [] i t us e = let d : drop {A = Tag} i [] ≡ [] = drop_of_length-le [] (omega arith) in cc
-parts_within q (u ∷ ts) zero t us e = let h : u ≡ t = cc in rw (h, add-zero)
-parts_within q (u ∷ ts) (suc i) t us e =
-    parts_within (behind q u) ts i t us e
-    ∙ ap (λ (n : ℕ). Some (parts_of n t)) (omega (arith, length_tag_bodies u (take i ts)))
+  module _ {t : TagParts} {rest : List TagParts} (e : ps ≡ t ∷ rest) where
+    first : FirstOf t rest a.start a.left.tags
+    first = first_of t rest a.start a.left.tags (sym a.left.parts ∙ e)
 
-module _ (b : Bytes) (d : is_some (decode_tags b) ≡ true) where
-  -- the tags from place i on stand behind the others
-  pub stands_from : (i : ℕ) → i ≤ length (shown_tags b)
-      → Stands b (keys_after i) (keys_after (length (shown_tags b)) + length (tag_bodies (take i (shown_tags b)))) (drop i (shown_tags b))
-  stands_from zero h =
-      let q = keys_after (length (shown_tags b)) in
-      let e : q + length (tag_bodies []) ≡ q = omega (arith, no_bodies) in
-      rw e (list_stands b d)
-  stands_from (suc i) h =
-      let ts = shown_tags b in
-      let q = keys_after (length ts) in
-      let s = stands_from i (omega arith) in
-      let e : parts_end (parts_read b (keys_after i) (q + length (tag_bodies (take i ts)))) ≡ q + length (tag_bodies (take (i + 1) ts)) =
-      omega (arith, turn_bodies b ts i (q + length (tag_bodies (take i ts))) (omega arith) s) in
-      rw (← add-one i) (rw e at (turn_next b ts i (q + length (tag_bodies (take i ts))) (omega arith) s))
+    key_read : key_in b t ≡ first.this.key
+    key_read = ap (λ (p : TagParts). key_in b p) first.first ∙ (stands_first (rw first.whole at a.stands)).key
 
-  module _ (i : ℕ) where
-    pub bodies_within : i ≤ length (shown_tags b) → keys_after (length (shown_tags b)) + length (tag_bodies (take i (shown_tags b))) ≤ tags_length
-    bodies_within h = omega (arith, (stands_from i h).within.1, list_size b d)
+    pub ahead_less : compare_bytes key (key_in b t) ≡ Less → spot_in key b ≡ record { place = i; start = t.key.start; value = None }
+    ahead_less o =
+        a.found ∙ ap (spot key i a.start) first.whole ∙ spot_less key i a.start first.this first.others (rw key_read at o)
+        ∙ ap (λ (p : TagParts). record { place = i; start = p.key.start; value = None }) (sym first.first)
 
-    -- the tag at a place
-    pub place_parts : i < length (shown_tags b)
-        → parts_at (keys_after (length (shown_tags b))) (shown_tags b) i
-        ≡ Some (parts_read b (keys_after i) (keys_after (length (shown_tags b)) + length (tag_bodies (take i (shown_tags b)))))
-    place_parts h =
-        let ts = shown_tags b in
-        let q = keys_after (length ts) in
-        let t = turn b ts i (q + length (tag_bodies (take i ts))) h (stands_from i (omega arith)) in
-        parts_within q ts i t.this (drop (i + 1) ts) t.left ∙ rw (t.key_size, t.value_size)
+    pub ahead_equal : compare_bytes key (key_in b t) ≡ Equal → spot_in key b ≡ record { place = i; start = t.key.start; value = Some t.value }
+    ahead_equal o =
+        a.found ∙ ap (spot key i a.start) first.whole ∙ spot_equal key i a.start first.this first.others (rw key_read at o)
+        ∙ ap (λ (p : TagParts). record { place = i; start = p.key.start; value = Some p.value }) (sym first.first)
 
-    pub place_past : length (shown_tags b) ≤ i → parts_at (keys_after (length (shown_tags b))) (shown_tags b) i ≡ None
-    place_past = parts_past (keys_after (length (shown_tags b))) (shown_tags b) i
-
-    -- where the next key stands
-    pub place_end : i < length (shown_tags b)
-        → parts_end (parts_read b (keys_after i) (keys_after (length (shown_tags b)) + length (tag_bodies (take i (shown_tags b)))))
-        ≡ keys_after (length (shown_tags b)) + length (tag_bodies (take (i + 1) (shown_tags b)))
-    place_end h =
-        let ts = shown_tags b in
-        omega (arith, turn_bodies b ts i (keys_after (length ts) + length (tag_bodies (take i ts))) h (stands_from i (omega arith)))
-
--- behind all of them
-pub contents_behind : (ts : List Tag) → length (tag_contents ts) ≡ keys_after (length ts) + length (tag_bodies (take (length ts) ts))
-contents_behind ts = rw (take-length ts) (length_contents ts)
-
-pub ruleset places = (list_size, list_count, list_few, no_bodies, bodies_within, place_end, place_parts, place_past, contents_behind)
+    pub ahead_greater : compare_bytes key (key_in b t) ≡ Greater → Ahead key b (i + 1) rest
+    ahead_greater o =
+        let f = first in
+        let n = length_tag_bodies f.this f.others in
+        let w = ap (λ (ts : List Tag). length (tag_bodies ts)) f.whole in
+        let p : keys_after i + 8 ≡ keys_after (i + 1) = omega arith in
+        record {
+          start = behind a.start f.this;
+          left = record { tags = f.others; parts = f.rest; ends = omega (arith, a.left.ends, w, n) };
+          stands = rw p at (stands_first (rw f.whole at a.stands)).next;
+          counted = omega (arith, a.counted, ap length f.whole);
+          found = a.found ∙ ap (spot key i a.start) f.whole ∙ spot_greater key i a.start f.this f.others (rw key_read at o);
+        }

@@ -1,10 +1,9 @@
 -- Where a key stands among tags, or would stand.
-use Rattle.std.specs.Prelude.{List, [], ◌∷◌, ℕ, ◌+◌, length, Some, None, Ok}
+use Rattle.std.specs.Prelude.{List, [], ◌∷◌, ℕ, ◌+◌, length, Some, None}
 use Rattle.model.specs.Bytes.{Bytes, by_order, compare_bytes}
-use Rattle.model.specs.Opening.{Given}
 use Rattle.model.specs.TagList.{Tag, keys_after, shown_tags}
-use Rattle.model.specs.TagOutcome.{behind, parts_of, with_key}
-use Rattle.tag_list.specs.declared.finding.Found.{Found}
+use Rattle.model.specs.TagOutcome.{behind, parts_of}
+use Rattle.tag_list.specs.declared.list.Found.{Found}
 
 -- among tags of which the first is at place i, its key at byte q
 unfoldable pub spot : Bytes → ℕ → ℕ → List Tag → Found
@@ -15,9 +14,9 @@ spot k i q (t ∷ ts) =
     (record { place = i; start = q; value = Some (parts_of q t).value })
     (spot k (i + 1) (behind q t) ts)
 
-abbrev pub spot_in : Bytes → Bytes → Found
-spot_in k b = spot k 0 (keys_after (length (shown_tags b))) (shown_tags b)
+-- among all tags of a list, and of a block
+abbrev pub spot_among : Bytes → List Tag → Found
+spot_among k ts = spot k 0 (keys_after (length ts)) ts
 
--- of a key as it comes
-abbrev pub found_in : Bytes → Bytes → Given Found
-found_in b key = with_key b key λ ts k. Ok (spot k 0 (keys_after (length ts)) ts)
+abbrev pub spot_in : Bytes → Bytes → Found
+spot_in k b = spot_among k (shown_tags b)

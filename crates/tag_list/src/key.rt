@@ -4,9 +4,9 @@ ghost use Rattle.model.specs.TagList.{fine_key, stored_key};
 ghost use Rattle.model.specs.TagOutcome.{ready_key};
 
 use crate::sizes::MAX_KEY;
+use arrayvec::ArrayVec;
 use model::Fault;
 use std::marker::Model;
-use text::filled;
 
 // Whether a key may come: it is short, and has no byte above 127.
 #[tactic(auto, using(crate::proofs::KeyBytes::fine))]
@@ -26,19 +26,15 @@ pub(crate) fn is_stored_key(key: &[u8]) -> bool
 // A key ready for use: its capitals are lowered.
 #[derive(Drop)]
 pub struct Key {
-    bytes: [u8; MAX_KEY],
-    size: usize,
+    bytes: ArrayVec<u8, MAX_KEY>,
 }
 
 impl Model for Key {
-    ghost use Rattle.std.specs.Prelude.{List, ℕ, ◌≤◌, take};
-    ghost use Rattle.model.specs.TagList.{max_key};
+    ghost use Rattle.std.specs.Prelude.{List, ℕ};
 
     ghost Value = { List ℕ };
 
-    ghost view = { λ k. take k.size k.bytes };
-
-    ghost invariant = { λ k. k.size ≤ max_key };
+    ghost view = { λ k. k.bytes.items };
 }
 
 impl Key {
@@ -50,17 +46,16 @@ impl Key {
         if !is_fine_key(key) {
             return Err(Fault::BadKey);
         }
-        let size = key.len();
-        let mut bytes: [u8; MAX_KEY] = filled(0);
-        let front = &mut bytes[..size];
-        front.copy_from_slice(key);
-        front.make_ascii_lowercase();
-        Ok(Key { bytes, size })
+        let mut bytes = ArrayVec::new();
+        bytes.try_extend_from_slice(key).unwrap();
+        bytes.as_mut_slice().make_ascii_lowercase();
+        Ok(Key { bytes })
     }
 
+    // The key's bytes.
     pub fn as_bytes(&self) -> &[u8]
         ensures { result.now ≡ self.now }
     {
-        &self.bytes[..self.size]
+        self.bytes.as_slice()
     }
 }

@@ -17,7 +17,7 @@ fn repeat(out: &mut [u8], at: usize, times: usize) -> usize {
     end
 }
 
-// The value of a hexadecimal digit in lower case; 0 for other bytes.
+// The value of a hexadecimal digit in lower case, which std would read in upper case too; 0 for other bytes.
 fn digit(x: u8) -> u8
     ensures { result < 16 }
 {
@@ -52,6 +52,7 @@ fn put_next<'a>(out: &mut [u8], at: usize, s: &'a [u8]) -> (usize, &'a [u8])
 pub(crate) fn read_bytes(s: &[u8], out: &mut [u8]) -> usize {
     let mut rest = s;
     let mut at = 0;
+    // Each turn takes as much of the text as it reads, from one byte to all.
     while !rest.is_empty() {
         (at, rest) = put_next(out, at, rest);
     }

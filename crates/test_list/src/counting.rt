@@ -16,7 +16,7 @@ fn print_with(n: usize, s: &[u8]) {
 }
 
 // The counts of one entry, or of all.
-#[derive(Clone, Copy)]
+#[derive(Clone, Copy, Default)]
 struct Counts {
     cases: usize,
     mismatches: usize,
@@ -25,13 +25,6 @@ struct Counts {
 }
 
 impl Counts {
-    const NONE: Counts = Counts {
-        cases: 0,
-        mismatches: 0,
-        wrong: 0,
-        noticed: 0,
-    };
-
     // Both together.
     fn plus(self, other: Counts) -> Counts {
         Counts {
@@ -65,8 +58,8 @@ impl Tally {
     // Nothing counted.
     pub fn new() -> Tally {
         Tally {
-            entries: filled(Counts::NONE),
-            total: Counts::NONE,
+            entries: filled(Counts::default()),
+            total: Counts::default(),
             results: filled(0),
         }
     }
@@ -101,7 +94,7 @@ impl Tally {
             Counts {
                 cases: 1,
                 mismatches: usize::from(!agreed),
-                ..Counts::NONE
+                ..Counts::default()
             },
         );
     }
@@ -113,7 +106,7 @@ impl Tally {
             Counts {
                 wrong: 1,
                 noticed: usize::from(!agreed),
-                ..Counts::NONE
+                ..Counts::default()
             },
         );
     }

@@ -34,6 +34,9 @@ pub record Rest (out : Bytes) (at : ℕ) (whole o : Bytes) (q : ℕ) (rest : Byt
   pub kept : length o ≡ length out
   pub makes : (r : ℕ) (o' : Bytes) → Appends o q rest r o' → Appends out at whole r o'
 
+pub rest_begin : {out : Bytes} {at : ℕ} {whole : Bytes} → at ≤ 18446744073709551615 → Rest out at whole out at whole
+rest_begin h = record { place = h; kept = refl; makes = λ r o a. a }
+
 pub rest_turn : {out : Bytes} {at : ℕ} {whole o : Bytes} {q : ℕ} {rest t u : Bytes} {p : ℕ} {o' : Bytes}
     → Rest out at whole o q rest → rest ≡ t ++ u → Appends o q t p o' → Rest out at whole o' p u
 rest_turn k e v = record {

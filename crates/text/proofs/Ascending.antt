@@ -9,10 +9,11 @@ use Prim.Native.Nat.{ℕ}
 use native.Mathlib.Omega.{arith}
 use Rattle.std.specs.declared.cmp.Ordering.{Ordering}
 use Rattle.std.specs.declared.cmp.Ordering.TheVariants.{Less, Equal, Greater}
+use Rattle.std.proofs.lemmas.Bool.{and_parts}
 use Rattle.model.specs.Bytes.{by_order}
 use Rattle.model.specs.Record.{insert, insert_all, ascends}
 use Rattle.model.specs.Statements.{Ascending}
-use Rattle.text.proofs.Tests.{both_true, less_true}
+use Rattle.text.proofs.Tests.{less_true}
 use Rattle.text.proofs.Order.{StrictOrder, opposite}
 
 -- x is below every member
@@ -28,7 +29,7 @@ module _ {A : Type 0} (cmp : A → A → Ordering) where
   ascends_true [] = (λ e. tt, λ a. refl)
   ascends_true (x ∷ []) = (λ e. tt, λ a. refl)
   ascends_true (x ∷ y ∷ ys) = (
-    λ e. let p = both_true _ _ e in ((less_true (cmp x y)).0 p.0, (ascends_true (y ∷ ys)).0 p.1),
+    λ e. let p = and_parts _ _ e in ((less_true (cmp x y)).0 p.0, (ascends_true (y ∷ ys)).0 p.1),
     λ a. rw ((less_true (cmp x y)).1 a.0) ((ascends_true (y ∷ ys)).1 a.1),
   )
 

@@ -13,9 +13,9 @@ use Rattle.std.specs.List.{fold, list_all, between}
 use Rattle.std.specs.Simd.{first_chunks}
 use Rattle.std.proofs.lemmas.Slice.{between_to_end}
 use Rattle.std.proofs.lemmas.List.Folds.{list_all-append}
+use Rattle.std.proofs.lemmas.Bool.{and_parts}
 use Rattle.model.specs.Bytes.{Bytes}
 use Rattle.text.specs.Blocks.{all_zero}
-use Rattle.text.proofs.Tests.{both_true}
 
 -- one after another, with no early end
 pub zeros_fold : (t : Bool) (s : Bytes) → fold (λ z x. z && eqb x 0) t s ≡ (t && all_zero s)
@@ -57,5 +57,5 @@ pub zeros_only : (b : Bytes) → all_zero b ≡ true → b ≡ replicate (length
 unfolding all_zero
 zeros_only [] h = refl
 zeros_only (x ∷ xs) h =
-    let p = both_true (eqb x 0) (all_zero xs) h in
+    let p = and_parts (eqb x 0) (all_zero xs) h in
     ap₂ ◌∷◌ (eqb-true x 0 p.0) (zeros_only xs p.1)

@@ -1,4 +1,4 @@
-// Room for tables and texts: arrays of any size, of any numbers.
+// Room for tables and texts: arrays of any size, whose elements are copied. They stand where a Vec would: the library has no heap.
 ghost use Rattle.std.specs.Prelude.{◌≡◌, ◌+◌, replicate};
 
 // An array of N elements that are all x.

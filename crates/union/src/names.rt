@@ -81,6 +81,7 @@ pub(crate) fn join<'a>(
     let mut i = 0;
     let mut j = 0;
     let mut v = 0;
+    // By two cursors, as steps are merged: after each name one record or both go on, and the place in each is what is noted.
     while i < b.count || j < c.count {
         match compare_next(b, c, i, j) {
             Ordering::Less => {

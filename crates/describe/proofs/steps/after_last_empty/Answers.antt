@@ -1,3 +1,4 @@
+-- A step from an empty name begins the list anew, and another leaves it.
 use mathlib.Core.Path.{sym, ◌∙◌}
 use Rattle.path_bytes.specs.Steps.{step_of, steps_of}
 use Rattle.describe.proofs.Runs.{keeping_start, keeping_empty, keeping_full, empty_by_length}

@@ -5,11 +5,9 @@ use Rattle.text.proofs.Appending.{Rest}
 use Rattle.path_bytes.specs.Steps.{steps_of}
 use Rattle.describe.proofs.steps.append_graphs.Given as goal
 
-abbrev pub invariant-loop-step : goal.invariant-loop-step
-invariant-loop-step l = record {
-  numbers : l.i + length (steps_of l.rest) ≡ 1 + length (steps_of l.fn.steps);
-  rest : Rest l.fn.out l.at (graph_lines 1 (steps_of l.fn.steps) l.last) l.out l.q (graph_lines l.i (steps_of l.rest) l.last);
+abbrev pub invariant-loop-i : goal.invariant-loop-i
+invariant-loop-i l = record {
+  numbers : l.i-iterator.count + length (steps_of l.i-iterator.iter) ≡ length (steps_of l.fn.steps);
+  rest : Rest l.fn.out l.at (graph_lines 1 (steps_of l.fn.steps) l.last) l.out l.q (graph_lines (l.i-iterator.count + 1) (steps_of l.i-iterator.iter) l.last);
+  goes : (goal.iterator-loop-i).can_next l.i-iterator × (goal.iterator-loop-i).is_finite l.i-iterator;
 }
-
-abbrev pub decreases-loop-step : goal.decreases-loop-step
-decreases-loop-step l = length (steps_of l.rest)

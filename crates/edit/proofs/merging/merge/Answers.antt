@@ -1,11 +1,13 @@
 -- The pairs of one kind are put in, and then those of the other.
+use Rattle.std.proofs.Common.{rules}
 use Rattle.edit.proofs.MergeAll.{second_merge, merged_both}
 use Rattle.edit.proofs.merging.merge.Goals as goal
 
-pub add_pairs-requires-clause-merge_room : goal.add_pairs-requires-clause-merge_room
-add_pairs-requires-clause-merge_room c =
-    let p = c.add_pairs-more in
-    second_merge _ _ c.requires.kept (rw c.in-Some.is at c.requires.room).1 _ p.ensures p.auto.refs p.auto.subs p.auto.trans p.auto.pool
+pub add_pairs-requires-in-Some : goal.add_pairs-requires-in-Some
+add_pairs-requires-in-Some g c =
+    (search rules, (c.add_pairs.ensures.kept, second_merge _ _ _ _ _ c.requires.kept (rw c.in-Some.is at c.requires.room) _ c.add_pairs.ensures))
 
-pub returns : goal.returns
-returns c = rw c.in-Some.is (merged_both _ _ c.requires.kept (rw c.in-Some.is at c.requires.room).1 _ c.add_pairs-more.ensures _ c.add_pairs.ensures)
+pub returns-in-Some : goal.returns-in-Some
+returns-in-Some g c =
+    rw c.in-Some.is
+    (merged_both g.row.NAMES g.row.PAIRS g.row.BYTES _ _ c.requires.kept (rw c.in-Some.is at c.requires.room) _ c.add_pairs.ensures _ c.add_pairs-in-Some.ensures)

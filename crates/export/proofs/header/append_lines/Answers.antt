@@ -8,4 +8,4 @@ pub returns : goal.returns
 returns c =
     let f = c.args.format in
     appends_as (sym (header_parts f.name.now f.subgraph.now f.translation.now f.between c.args.graph.now))
-    (appends_both (appends_both c.append_name-p.ensures (rw c.of.ensures at c.append-q.ensures)) (rw c.of-2.ensures at c.append.ensures))
+    (appends_both (appends_both c.append_name-p.ensures (rw c.pairs.ensures.value at c.append_pairs-q.ensures)) (rw c.pairs-2.ensures.value at c.append_pairs.ensures))

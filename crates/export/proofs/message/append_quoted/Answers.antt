@@ -1,3 +1,4 @@
+-- Three texts, one behind the other.
 use Rattle.text.proofs.Appending.{appends_both}
 use Rattle.export.proofs.message.append_quoted.Goals as goal
 

@@ -11,22 +11,22 @@ returns-in_err-b c =
 
 pub returns-in_default : goal.returns-in_default
 returns-in_default c =
-    let n = rw c.in_default.is at c.place_of_own.ensures in
+    let n = rw c.in_default.is at c.own_place.ensures in
     rw (ask_unnamed _ _ (length c.args.out.now) _ _ (sym c.open_both.ensures ∙ c.in_ok-b.was) c.args.question n) (refl, refl)
 
-pub returns-in_default-place_of_own : goal.returns-in_default-place_of_own
-returns-in_default-place_of_own c =
-    let n = rw c.in_default-place_of_own.is at c.place_of_own-2.ensures in
+pub returns-in_default-own_place : goal.returns-in_default-own_place
+returns-in_default-own_place c =
+    let n = rw c.in_default-own_place.is at c.own_place-2.ensures in
     rw (ask_other_unnamed _ _ (length c.args.out.now) _ _ (sym c.open_both.ensures ∙ c.in_ok-b.was) c.args.question n) (refl, refl)
 
 pub returns-then-size-le-SMALL_PAIRS : goal.returns-then-size-le-SMALL_PAIRS
 returns-then-size-le-SMALL_PAIRS c =
-    let m = rw c.in-Some.is at c.place_of_own.ensures in
-    let n = rw c.in-Some-place_of_own.is at c.place_of_own-2.ensures in
+    let m = rw c.in-Some.is at c.own_place.ensures in
+    let n = rw c.in-Some-own_place.is at c.own_place-2.ensures in
     rw (ask_named _ _ (length c.args.out.now) _ _ (sym c.open_both.ensures ∙ c.in_ok-b.was) c.args.question _ _ m.1 n.1) c.ask_sized.ensures
 
 pub returns : goal.returns
 returns c =
-    let m = rw c.in-Some.is at c.place_of_own.ensures in
-    let n = rw c.in-Some-place_of_own.is at c.place_of_own-2.ensures in
+    let m = rw c.in-Some.is at c.own_place.ensures in
+    let n = rw c.in-Some-own_place.is at c.own_place-2.ensures in
     rw (ask_named _ _ (length c.args.out.now) _ _ (sym c.open_both.ensures ∙ c.in_ok-b.was) c.args.question _ _ m.1 n.1) c.ask_sized-2.ensures

@@ -1,12 +1,11 @@
 -- The marks of the pairs left, made on what is there, are the marks of all of them.
-use Rattle.std.proofs.Common.{◌≡◌, ◌+◌, ◌-◌, ◌*◌, ◌≤◌, length, drop}
-use Rattle.model.specs.Layout.{pair_length}
-use Rattle.record.specs.Test.{pairs_at, Under, marks}
+use Rattle.std.proofs.Common.{◌≡◌, length}
+use Rattle.record.specs.Rows.{rows_of}
+use Rattle.record.specs.Test.{Under, marks}
 use Rattle.record.proofs.test.mark_pairs.Given as goal
 
-abbrev pub invariant-loop-i : goal.invariant-loop-i
-invariant-loop-i l = record {
-  within : l.i ≤ l.count;
-  under : Under (length l.fn.used) (pairs_at (l.count - l.i) (drop (l.at + pair_length * l.i) l.b));
-  rest : marks (pairs_at (l.count - l.i) (drop (l.at + pair_length * l.i) l.b)) l.used ≡ marks (pairs_at l.count (drop l.at l.b)) l.fn.used;
+abbrev pub invariant-loop-from : goal.invariant-loop-from
+invariant-loop-from l = record {
+  under : Under (length l.fn.used) (rows_of l.from-iterator);
+  rest : marks (rows_of l.from-iterator) l.used ≡ marks (rows_of l.fn.pairs) l.fn.used;
 }

@@ -10,5 +10,5 @@ returns c =
     let t = c.write16-b in
     let u = c.write16-c in (
       omega arith,
-      counts_written a.buffer.now _ _ _ _ s.result t.result u.result a.names a.own a.subgraph a.translation c.requires s.ensures.1 s.ensures.0 t.ensures.1 t.ensures.0 u.ensures.1 u.ensures.0 c.write16.ensures.1,
+      counts_written a.buffer.now _ _ _ _ s.result t.result u.result a.head.names a.head.own a.head.subgraph a.head.translation c.requires s.ensures.1 s.ensures.0 t.ensures.1 t.ensures.0 u.ensures.1 u.ensures.0 c.write16.ensures.1,
     )

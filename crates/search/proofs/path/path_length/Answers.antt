@@ -1,3 +1,4 @@
+-- One step more is counted, and one fewer is left.
 use Rattle.std.proofs.Common.{◌≡◌, ◌<◌, length, arith}
 use Rattle.std.proofs.lemmas.List.{get_or_read}
 use Rattle.search.specs.Queue.{prev_at}

@@ -1,3 +1,4 @@
+-- The lesser of two steps is written, and passed where it stands.
 use Rattle.std.proofs.Common.{◌≡◌, ◌⊎◌, inl, inr, refl, length, arith}
 use Rattle.std.proofs.lemmas.List.{get_or_read}
 use Rattle.search.proofs.Merging.{take_next, merging_turned, merging_rest, merging_end}

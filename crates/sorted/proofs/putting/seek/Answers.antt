@@ -10,5 +10,5 @@ pub returns-clause-value : goal.returns-clause-value
 returns-clause-value c =
     let a = c.args in
     let b = c.binary_search_by in
-    names_searched a.name.now a.pool.now a.refs.now a.n c.requires.0 c.requires.1 b.result b.ensures.bound
+    names_searched a.name.now a.pool.now a.refs.now c.requires b.result b.ensures.bound
     (b.ensures.position (λ r. compare_bytes (body_in a.pool.now r) a.name.now) (always_returns_same _ _ _ (λ x r f h. search rules)))

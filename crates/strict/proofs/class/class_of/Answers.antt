@@ -3,8 +3,7 @@ use Rattle.std.proofs.Common.{◌≡◌, refl, Bool, true, ◌&&◌, List, ◌�
 use Rattle.std.proofs.Math.Bool.{beq}
 use Rattle.std.specs.Cmp.{booleans_Decides}
 use Rattle.model.specs.Strict.{digit, hex_letter, letter, visible, printable}
-use Rattle.std.proofs.lemmas.Bool.{agree_below_at}
-use Rattle.text.proofs.Tests.{both_true}
+use Rattle.std.proofs.lemmas.Bool.{agree_below_at, and_parts}
 use Rattle.strict.specs.Class.{Classes}
 use Rattle.strict.proofs.class.class_of.Goals as goal
 
@@ -22,10 +21,10 @@ same {a} {b} e = (booleans_Decides a b).0 e
 
 classes : (x n : ℕ) → right x n ≡ true → Classes x n
 classes x n e =
-    let p = both_true _ _ e in
-    let q = both_true _ _ p.1 in
-    let r = both_true _ _ q.1 in
-    let s = both_true _ _ r.1 in
+    let p = and_parts _ _ e in
+    let q = and_parts _ _ p.1 in
+    let r = and_parts _ _ q.1 in
+    let s = and_parts _ _ r.1 in
     record {
       digits = same p.0;
       hex_letters = same q.0;

@@ -3,19 +3,20 @@ use Rattle.std.proofs.Common.{◌≡◌, ℕ, ◌<◌, ap, rules, length}
 use Rattle.std.specs.Prelude.{Ok, Some}
 use Rattle.model.specs.Bytes.{Bytes}
 use Rattle.record.specs.Coded.{name_in}
-use Rattle.sorted.specs.Tables.{names_in}
+use Rattle.sorted.specs.Tables.{table_names}
 use Rattle.tables.proofs.Judge.{among}
+use Rattle.tables.proofs.judging.place_among.Given.{Over}
 use Rattle.tables.proofs.judging.place_among.Goals as goal
 use Rattle.tables.proofs.judging.place_among.Goals.{After-seek}
 
-there : (c : After-seek) → (p : ℕ) × (c.seek.result ≡ Ok p) × (p < length (names_in c.args.pool.now c.args.n c.args.refs.now)) × (name_in (names_in c.args.pool.now c.args.n c.args.refs.now) p ≡ c.in_ok-own.field-0.now)
-there c = among c.in_ok-own.field-0.now (names_in c.args.pool.now c.args.n c.args.refs.now) c.seek.result (rw c.in_ok-own.was at c.requires.2) c.seek.ensures.value
+there : (g : Over) (c : After-seek g) → (p : ℕ) × (c.seek.result ≡ Ok p) × (p < length (table_names c.args.tables.now)) × (name_in (table_names c.args.tables.now) p ≡ c.in_ok-own.field-0.now)
+there g c = among c.in_ok-own.field-0.now (table_names c.args.tables.now) c.seek.result (rw c.in_ok-own.was at c.requires) c.seek.ensures.value
 
 pub unwrap-requires : goal.unwrap-requires
-unwrap-requires c = rw (there c).1 (search rules)
+unwrap-requires g c = rw (there g c).1 (search rules)
 
 pub returns-clause-place : goal.returns-clause-place
-returns-clause-place c =
-    let w = there (goal.at.returns-clause-place c).After-seek in
+returns-clause-place g c =
+    let w = there g (goal.at.returns-clause-place g c).After-seek in
     let e : w.0 ≡ c.unwrap.result = cc in
     rw (c.in_ok-own.was) (ap (λ (n : Bytes). Some n) (rw e at w.3))

@@ -1,8 +1,7 @@
--- The first i pairs are in, and the names are among those of both.
-use Rattle.model.specs.Layout.{shown}
-use Rattle.sorted.specs.Tables.{tables}
+-- All pairs are in but those that are left, and the names are among those of both.
+use Rattle.record.specs.Pairs.{pairs_left}
 use Rattle.tables.proofs.Merge.{Putting}
 use Rattle.tables.proofs.merging.add_pairs.Given as goal
 
-abbrev pub invariant-loop-i : goal.invariant-loop-i
-invariant-loop-i l = Putting l.kind (tables l.fn.refs l.fn.subs l.fn.trans l.fn.pool l.fn.sizes) (shown l.other) l.i (tables l.refs l.subs l.trans l.pool l.done)
+abbrev pub invariant-loop-from : goal.invariant-loop-from
+invariant-loop-from g l = Putting l.kind l.fn.tables l.other (pairs_left l.from-iterator) l.tables

@@ -7,6 +7,6 @@ use Rattle.tables.proofs.storing.store_bodies.Given as goal
 
 abbrev pub invariant-loop-r : goal.invariant-loop-r
 invariant-loop-r l = record {
-  place : l.p + length (bodies (map (body_in l.pool) (drop l.r-index l.r-items))) ≡ l.at + length (bodies (map (body_in l.pool) l.r-items));
-  output : put l.buffer l.p (bodies (map (body_in l.pool) (drop l.r-index l.r-items))) ≡ put l.fn.buffer l.at (bodies (map (body_in l.pool) l.r-items));
+  place : l.p + length (bodies (map (body_in l.pool) (drop l.r-index l.refs))) ≡ l.at + length (bodies (map (body_in l.pool) l.refs));
+  output : put l.buffer l.p (bodies (map (body_in l.pool) (drop l.r-index l.refs))) ≡ put l.fn.buffer l.at (bodies (map (body_in l.pool) l.refs));
 }

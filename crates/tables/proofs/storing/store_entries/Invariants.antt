@@ -9,5 +9,5 @@ abbrev pub invariant-loop-r : goal.invariant-loop-r
 invariant-loop-r l = record {
   place : l.p ≡ l.at + entry_length * l.r-index;
   bounded : l.start ≤ 65536 * l.r-index;
-  output : put l.buffer l.p (entries l.start (map (body_in l.pool) (drop l.r-index l.r-items))) ≡ put l.fn.buffer l.at (entries 0 (map (body_in l.pool) l.r-items));
+  output : put l.buffer l.p (entries l.start (map (body_in l.pool) (drop l.r-index l.refs))) ≡ put l.fn.buffer l.at (entries 0 (map (body_in l.pool) l.refs));
 }

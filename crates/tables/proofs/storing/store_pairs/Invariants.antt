@@ -9,5 +9,5 @@ use Rattle.tables.proofs.storing.store_pairs.Given as goal
 abbrev pub invariant-loop-pair : goal.invariant-loop-pair
 invariant-loop-pair l = record {
   place : l.p ≡ l.at + pair_length * l.pair-index;
-  output : put l.buffer l.p (le_pairs (map places_of (drop l.pair-index l.pair-items))) ≡ put l.fn.buffer l.at (le_pairs (map places_of l.pair-items));
+  output : put l.buffer l.p (le_pairs (map places_of (drop l.pair-index l.pairs))) ≡ put l.fn.buffer l.at (le_pairs (map places_of l.pairs));
 }

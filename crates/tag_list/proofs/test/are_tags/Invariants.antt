@@ -1,11 +1,9 @@
--- Whether all tags are right is whether those from the place on are, the first of them with its key at `start`.
-use Rattle.std.proofs.Common.{◌≡◌, ◌+◌, ◌-◌, ◌*◌, ◌≤◌}
-use Rattle.model.specs.TagList.{max_key, max_value, tag_count_length, tags_length, keys_after}
+-- Whether all tags are right is whether the last that was read and those left are.
+use Rattle.model.specs.TagList.{keys_after}
+use Rattle.tag_list.specs.Tags.{parts_from, parts_left}
 use Rattle.tag_list.specs.Test.{tags_ok}
+use Rattle.tag_list.proofs.Steps.{From}
 use Rattle.tag_list.proofs.test.are_tags.Given as goal
 
-abbrev pub invariant-loop-place : goal.invariant-loop-place
-invariant-loop-place l = record {
-  room : l.start + (max_key + max_value) * (l.count - l.place) ≤ tags_length;
-  rest : tags_ok l.b tag_count_length (keys_after l.count) l.count ≡ tags_ok l.b (keys_after l.place) l.start (l.count - l.place);
-}
+abbrev pub invariant-loop-next : goal.invariant-loop-next
+invariant-loop-next l = From l.b (tags_ok l.b (keys_after l.count) (parts_from l.b 0 (keys_after l.count) l.count)) l.tag (parts_left l.next-iterator)

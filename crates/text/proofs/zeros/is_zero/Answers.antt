@@ -1,3 +1,4 @@
+-- The fold says of each byte what the definition says of all.
 use Rattle.std.proofs.Common.{rules, tests, ◌&&◌, Bool, ℕ, true, eqb, ◌∙◌}
 use Rattle.std.proofs.lemmas.Iterator.{YieldsList-from_slice}
 use Rattle.std.proofs.lemmas.Iterator.Consumers.{fold_from_yields_List}

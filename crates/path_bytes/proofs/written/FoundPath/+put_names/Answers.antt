@@ -1,3 +1,4 @@
+-- What is written for the path before, and one name more.
 use Rattle.std.proofs.Common.{arith}
 use Rattle.path_bytes.proofs.Joined.{few_steps, first_fits, names_first, writable_prev, further_fits, names_more}
 use Rattle.path_bytes.proofs.written.FoundPath.+put_names.Goals as goal

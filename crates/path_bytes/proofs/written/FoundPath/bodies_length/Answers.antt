@@ -1,3 +1,4 @@
+-- A name is counted, and the path goes back by one.
 use Rattle.std.proofs.Common.{◌≡◌, ◌∙◌, arith}
 use Rattle.search.specs.Queue.{node_at}
 use Rattle.search.specs.Spans.{named}

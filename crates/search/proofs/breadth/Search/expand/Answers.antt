@@ -1,3 +1,4 @@
+-- A step leads to a node that is known, or to one that is found now.
 use Rattle.std.proofs.Common.{◌≡◌, refl, ◌<◌, length, arith}
 use Rattle.std.proofs.lemmas.List.{get_or_read}
 use Rattle.search.specs.Queue.{node_at}

@@ -1,3 +1,4 @@
+-- The target is taken, or one place more is done.
 use Rattle.std.proofs.Common.{◌≡◌, ◌∙◌, None, length, replicate, ◌<◌, arith, rules}
 use Rattle.std.proofs.lemmas.List.{get_or_read}
 use Rattle.search.specs.Steps.{leads}

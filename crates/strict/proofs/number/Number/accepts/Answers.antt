@@ -2,7 +2,7 @@
 use Rattle.std.proofs.Common.{rules}
 use Rattle.std.proofs.lemmas.Iterator.{YieldsList-from_slice}
 use Rattle.strict.specs.Number.{next, read}
-use Rattle.strict.proofs.Folding.{fold_from_try_fold}
+use Rattle.text.proofs.Folding.{fold_from_try_fold}
 use Rattle.strict.proofs.number.Number.accepts.Goals as goal
 
 pub returns : goal.returns
