@@ -10,6 +10,7 @@ use Rattle.model.specs.Bytes.{Bytes}
 use Rattle.model.specs.Numbers.{le16}
 use Rattle.model.specs.Path.{Step, path_entries, path_bodies, path_bytes}
 use Rattle.search.specs.Steps.{max_nodes}
+use Rattle.search.specs.Extent.{span_lengths}
 use Rattle.search.specs.Queue.{node_at, prev_at, move_at}
 use Rattle.search.specs.Promise.{path_to, Back}
 use Rattle.search.specs.Names.{step_of}
@@ -75,12 +76,12 @@ module _ (name : ℕ → Bytes) (q : List ℕ) where
 -- after so many bytes of names, the path to place j is left
 pub record Adding (name : ℕ → Bytes) (q : List ℕ) (place j total : ℕ) : Type 0 where
   pub low : j ≤ place
-  pub bound : total + 65536 * j ≤ 65536 * place
+  pub bound : total + span_lengths * j ≤ span_lengths * place
   pub left : total + bodies_to name q j ≡ bodies_to name q place
 
 module _ (name : ℕ → Bytes) (q : List ℕ) (place : ℕ) (back : Back q place) where
   module _ (j total : ℕ) (a : Adding name q place j total) (last : Bytes) (is : last ≡ name (node_at q j)) where
-    pub adding_step : length last < 65536 → 0 < j → Adding name q place (prev_at q j) (total + length last)
+    pub adding_step : length last < span_lengths → 0 < j → Adding name q place (prev_at q j) (total + length last)
     adding_step s z =
         let f = back.falls j z a.low in
         record {

@@ -8,4 +8,5 @@ mod reading;
 mod written;
 
 pub use finding::find_path;
-pub use reading::{StepFrom, Steps, path_start};
+pub use layout::{ENTRY_LENGTH, FIRST_ENTRY, entry_at as bodies_at};
+pub use reading::{StepFrom, Steps, name_count, name_length, path_start};

@@ -8,7 +8,7 @@ use model::Kind;
 use text::{part, read16};
 
 // How many names a path has.
-fn name_count(path: &[u8]) -> usize
+pub fn name_count(path: &[u8]) -> usize
     requires { first_entry ≤ length path.now }
     ensures { (result ≡ name_count path.now) × (result < 65536) }
 {
@@ -16,7 +16,7 @@ fn name_count(path: &[u8]) -> usize
 }
 
 // How long the name is whose entry stands at this byte.
-fn name_length(path: &[u8], entry: usize) -> usize
+pub fn name_length(path: &[u8], entry: usize) -> usize
     requires { entry + entry_length ≤ length path.now }
     ensures { (result ≡ name_length path.now entry) × (result < 65536) }
 {

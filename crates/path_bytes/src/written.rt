@@ -5,6 +5,7 @@ ghost use Rattle.model.specs.Numbers.{le16};
 ghost use Rattle.search.specs.Steps.{max_nodes};
 ghost use Rattle.search.specs.Queue.{node_at, prev_at, move_at};
 ghost use Rattle.search.specs.Names.{kind_of};
+ghost use Rattle.search.specs.Extent.{span_lengths};
 ghost use Rattle.search.specs.Spans.{named};
 ghost use Rattle.path_bytes.specs.Layout.{entry_at};
 ghost use Rattle.path_bytes.specs.Written.{step_number, bodies_to, Readback, Writable, NamesWritten, PathWritten};
@@ -47,7 +48,7 @@ impl<'a> FoundPath<'a> {
     // Its last name.
     fn name(self) -> &'a [u8]
         requires { (self.place < length self.queue.now) × (node_at self.queue.now self.place < length self.names.spans.now) }
-        ensures { (result.now ≡ named self.entry.names (node_at self.entry.queue.now self.entry.place)) × (length result.now < 65536) }
+        ensures { (result.now ≡ named self.entry.names (node_at self.entry.queue.now self.entry.place)) × (length result.now < span_lengths) }
     {
         self.names.name(self.queue[self.place].to())
     }
@@ -74,7 +75,7 @@ impl<'a> FoundPath<'a> {
     // How long its names are together.
     fn bodies_length(self) -> usize
         requires { Readback (length self.names.spans.now) self.queue.now self.place }
-        ensures { (result ≡ bodies_to (named self.entry.names) self.entry.queue.now self.entry.place) × (result < 65536 * max_nodes) }
+        ensures { (result ≡ bodies_to (named self.entry.names) self.entry.queue.now self.entry.place) × (result < span_lengths * max_nodes) }
     {
         let mut path = self;
         let mut total = 0;

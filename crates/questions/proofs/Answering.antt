@@ -13,7 +13,6 @@ use Rattle.model.specs.Outcome.{name_or}
 use Rattle.model.specs.Statements.{Valid}
 use Rattle.record.specs.Holds.{IsOwnAt}
 use Rattle.search.specs.Spans.{named}
-use Rattle.search.specs.Table.{Indexed}
 use Rattle.search.specs.Related.{StandsFor}
 use Rattle.search.proofs.StepTables.{searchable}
 use Rattle.path_bytes.specs.Replies.{Replies, Askable, RepliesRight}
@@ -52,14 +51,14 @@ module _ (q : Question) (g h : GraphName) (own : Own) (are : AreOwn g h own) (u 
 
   -- the search is lent parts of tables with room for its nodes, and an index
   module _ (t : Tables) (room : Roomy g h t) (rows : List ℕ) (same_rows : length rows ≡ length t.rows.now) (steps starts : List ℕ) (steps_are : steps ≡ u.steps.now)
-      (index : Indexed u.steps.now starts) (starts_long : length starts ≡ length (take (nodes + 1) t.starts.now)) where
+      (starts_long : length starts ≡ length (take (nodes + 1) t.starts.now)) where
     places_long : length (take nodes t.places.now) ≡ nodes
     places_long = length-take-le nodes t.places.now (omega (arith, is.names_count, room.places_room))
 
     pub askable : Askable nodes steps starts from target (take nodes rows) (take nodes t.places.now)
     askable = record {
       tables =
-          searchable steps starts from (take nodes rows) (take nodes t.places.now) (named u.names) (by_question q g h) (rw (steps_are, places_long) is.table) (rw steps_are index)
+          searchable steps starts from (take nodes rows) (take nodes t.places.now) (named u.names) (by_question q g h) (rw (steps_are, places_long) is.table)
           (omega (arith, places_long, length-take-le (nodes + 1) t.starts.now (omega (arith, is.names_count, room.starts_room))))
           (length-take-le nodes rows (omega (arith, is.names_count, room.rows_for_names)) ∙ omega (arith, places_long)) (omega (arith, from_named.0, places_long));
       asked = omega (arith, target_named.0, places_long);

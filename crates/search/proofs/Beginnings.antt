@@ -1,11 +1,10 @@
 -- Where the steps of each node begin, one node at a time; and the table that a search wants.
-use mathlib.Core.Path.{◌≡◌}
 use mathlib.Core.List.{List}
-use Prim.Native.Nat.{ℕ, ◌+◌, ◌*◌, ◌%◌, ◌≤◌, ◌<◌}
+use Prim.Native.Nat.{ℕ, ◌*◌, ◌≤◌, ◌<◌}
 use native.Mathlib.Omega.{arith}
 use lib.ListN.{length, get_or}
-use Rattle.search.specs.Steps.{max_nodes, max_moves, Made}
-use Rattle.search.specs.Table.{Rises, Begins, Indexed}
+use Rattle.search.specs.Steps.{max_nodes, max_moves, Connects, Made}
+use Rattle.search.specs.Table.{Begins, Indexed}
 
 pub record Indexing (steps starts : List ℕ) (v e : ℕ) : Type 0 where
   pub inside : e ≤ length steps
@@ -13,14 +12,13 @@ pub record Indexing (steps starts : List ℕ) (v e : ℕ) : Type 0 where
   pub done : (u : ℕ) → u < v → Begins steps u (get_or starts u 0)
 
 -- an indexed table between n nodes
-pub made : (steps starts : List ℕ) (n : ℕ) → n ≤ max_nodes → Rises steps (length steps) → ((e : ℕ) → e < length steps → get_or steps e 0 % max_nodes < n)
-    → length starts ≡ n + 1 → Indexed steps starts → Made steps starts n
-made steps starts n small rises nodes long index = record {
+pub made : (steps starts : List ℕ) (n : ℕ) → n ≤ max_nodes → Connects steps starts n → Indexed steps starts → Made steps starts n
+made steps starts n small c index = record {
   small = small;
-  rises = λ e f l m. omega (arith, rises e f l m);
-  nodes = nodes;
-  long = long;
-  inside = λ v l. (index v (omega arith)).inside;
-  below = λ v e l. (index v (omega arith)).below e;
-  above = λ v e l. (index v (omega arith)).above e;
+  rises = c.rises;
+  nodes = c.nodes;
+  long = c.long;
+  inside = λ v l. (index v (omega (arith, c.long))).inside;
+  below = λ v e l. (index v (omega (arith, c.long))).below e;
+  above = λ v e l. (index v (omega (arith, c.long))).above e;
 }

@@ -3,6 +3,7 @@ pub mod Steps
 pub mod Queue
 pub mod Table
 pub mod Promise
+pub mod Extent
 pub mod Spans
 pub mod Names
 pub mod Related

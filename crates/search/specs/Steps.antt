@@ -46,6 +46,12 @@ pub record Best (R : Moves) (a : ℕ) (ms : List ℕ) (b : ℕ) : Type 0 where
 abbrev pub leads : List ℕ → Moves
 leads steps v m = (m < max_moves) × ((e : ℕ) × (e < length steps) × (get_or steps e 0 ≡ v * max_moves + m))
 
+-- ascending steps (one may stand twice) that lead to n nodes, with a start for each node and one for the end of the last one's
+pub record Connects (steps starts : List ℕ) (n : ℕ) : Type 0 where
+  pub rises : (e f : ℕ) → e < f → f < length steps → get_or steps e 0 ≤ get_or steps f 0
+  pub nodes : (e : ℕ) → e < length steps → get_or steps e 0 % max_nodes < n
+  pub long : length starts ≡ n + 1
+
 -- ascending steps (one may stand twice) between n nodes, and where those of each node begin
 pub record Made (steps starts : List ℕ) (n : ℕ) : Type 0 where
   pub small : n ≤ max_nodes

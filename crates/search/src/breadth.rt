@@ -1,6 +1,6 @@
 // The search, and one turn of it.
 ghost use Rattle.std.specs.Prelude.{◌≡◌, ◌+◌, ◌<◌, length};
-ghost use Rattle.search.specs.Steps.{Made, leads};
+ghost use Rattle.search.specs.Steps.{Connects, leads};
 ghost use Rattle.search.specs.Queue.{Searching, Kept};
 ghost use Rattle.search.specs.Promise.{Searchable, SearchedFrom};
 
@@ -19,7 +19,7 @@ pub struct Search<'a> {
 impl<'a> Search<'a> {
     // Goes on from the node at a place: every node that a step leads to from it is found then. Gives how many are found.
     fn expand<'g>(&mut self, graph: Graph<'g>, place: usize, found: usize) -> usize
-        requires { Made graph.steps.now graph.starts.now (length self.old.places.now) × Searching (leads graph.steps.now) self.old.queue.now self.old.places.now found place × (place < found) }
+        requires { Connects graph.steps.now graph.starts.now (length self.old.places.now) × Searching (leads graph.steps.now) self.old.queue.now self.old.places.now found place × (place < found) }
         ensures found { Searching (leads graph.entry.steps.now) self.new.queue.now self.new.places.now result (place + 1) }
         ensures kept { Kept self.old.queue.now found self.new.queue.now result }
         ensures same_size { length self.new.places.now ≡ length self.old.places.now }

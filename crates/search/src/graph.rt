@@ -1,6 +1,6 @@
 // An ascending table of steps with its index, which says where the steps that leave each node begin.
 ghost use Rattle.std.specs.Prelude.{◌≡◌, ℕ, ◌+◌, ◌-◌, ◌*◌, ◌≤◌, ◌<◌, length, get_or, take, drop};
-ghost use Rattle.search.specs.Steps.{max_moves, Made};
+ghost use Rattle.search.specs.Steps.{max_moves};
 ghost use Rattle.search.specs.Table.{Rises, Indexed};
 
 use crate::step::Step;
@@ -33,6 +33,7 @@ fn index(steps: &[Step], starts: &mut [u16])
 pub struct Graph<'a> {
     pub steps: &'a [Step],
     pub starts: &'a [u16],
+    ghost indexed: { Indexed steps.now starts.now },
 }
 
 impl<'a> Graph<'a> {
@@ -47,7 +48,7 @@ impl<'a> Graph<'a> {
 
     // The steps that leave a node.
     pub fn leaving(self, node: usize) -> &'a [Step]
-        requires { (node + 1 < length self.starts.now) × Indexed self.steps.now self.starts.now }
+        requires { node + 1 < length self.starts.now }
         ensures { result.now ≡ take (get_or self.entry.starts.now (node + 1) 0 - get_or self.entry.starts.now node 0) (drop (get_or self.entry.starts.now node 0) self.entry.steps.now) }
     {
         &self.steps[self.starts[node] as usize..self.starts[node + 1] as usize]

@@ -14,9 +14,9 @@ mod table;
 
 pub use breadth::Search;
 pub use graph::Graph;
-pub use names::{Names, Span};
+pub use names::{Names, SPAN_LENGTHS, Span};
 pub use path::path_length;
-pub use step::Step;
+pub use step::{MAX_MOVES, MAX_NODES, Step};
 pub use table::merge;
 
 // How many nodes were taken from the queue, how many were found, and at which place of the queue the target is, if it was reached: it

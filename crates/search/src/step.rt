@@ -8,10 +8,10 @@ use model::Kind;
 use std::marker::Model;
 
 // Nodes are numbers below this.
-const MAX_NODES: u32 = 8192;
+pub const MAX_NODES: u32 = 8192;
 
 // And moves, which are steps without their start, are below this: one to each node by each kind.
-const MAX_MOVES: u32 = 16384;
+pub const MAX_MOVES: u32 = 16384;
 
 // A step from a node to another by a kind. In a search's queue it leads from the node at a place, and `from` is that place.
 #[derive(Clone, Copy, Debug, PartialEq, Eq, PartialOrd, Ord)]

@@ -6,12 +6,13 @@ use native.Mathlib.Omega.{arith}
 use lib.ListN.{length}
 use Rattle.model.specs.Bytes.{Bytes}
 use Rattle.model.specs.Record.{names}
-use Rattle.model.specs.Layout.{name_count, bodies_at, body_start, name_at, shown}
+use Rattle.model.specs.Layout.{name_count, bodies_at, body_start, body_length, name_at, shown}
 use Rattle.text.proofs.Order.{bytes_order}
 use Rattle.text.proofs.Places.{ascending_get_or}
 use Rattle.record.specs.Holds.{HoldsRecord}
 use Rattle.record.proofs.Names.{names_ascending}
 use Rattle.record.proofs.Access.{record_count, record_name, name_within}
+use Rattle.search.specs.Extent.{span_lengths}
 use Rattle.search.specs.Spans.{spanned}
 use Rattle.search.specs.Names.{InOrder}
 use Rattle.search.proofs.Spanning.{span_in_first, span_in_second}
@@ -22,6 +23,10 @@ name_order b r p q l m =
     let n : q < length (names (shown b)) = omega (arith, record_count b (shown b) r.decoded) in
     rw (← record_name b (shown b) r.decoded p (omega arith), ← record_name b (shown b) r.decoded q m)
     (ascending_get_or bytes_order [] (names (shown b)) p q (names_ascending (shown b)) l n)
+
+-- a name is no longer than a span may be
+pub name_short : {b : Bytes} → HoldsRecord b → (p : ℕ) → p < name_count b → body_length b p < span_lengths
+name_short r p l = omega (arith, (name_within _ _ r.decoded p l).1)
 
 -- the span of a name of the first, and of one of the second behind it
 module _ (b c : Bytes) where

@@ -42,6 +42,7 @@ impl<'a> RecordNames<'a> {
     }
 
     // Its span, with the record behind `before` bytes.
+    #[tactic(auto, using(crate::proofs::Placed::name_short))]
     fn span(self, i: usize, before: usize) -> Span
         requires { (i < self.count) × (before ≤ record_length) }
         ensures { result ≡ span_at before self.entry.bytes.now i }
