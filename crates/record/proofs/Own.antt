@@ -3,7 +3,7 @@ use mathlib.Core.Path.{◌≡◌, refl}
 use mathlib.Core.Bool.{true, false}
 use Rattle.std.specs.Prelude.{Option, Some, None}
 use Rattle.std.specs.Option.{option_map}
-use Prim.Native.Nat.{ℕ, zero, suc}
+use Prim.Native.Nat.{ℕ, zero, suc, ◌<◌}
 use native.Mathlib.Omega.{arith}
 use Rattle.model.specs.Bytes.{Bytes}
 use Rattle.model.specs.Layout.{own_number, name_at, own_at, shown}
@@ -19,6 +19,17 @@ own_shown b = go (own_number b)
     go : (i : ℕ) → own_at b i ≡ option_map (name_at b) (place_numbered i)
     go zero = refl
     go (suc i) = refl
+
+-- there is none for the number 0, and one for any other
+pub none_shown : (b : Bytes) → own_number b ≡ 0 → false ≡ is_some (shown b).name
+none_shown b e = rw (own_shown b, e) refl
+
+pub one_shown : (b : Bytes) → 0 < own_number b → true ≡ is_some (shown b).name
+one_shown b h = rw (own_shown b) (go (own_number b) h)
+  where
+    go : (n : ℕ) → 0 < n → true ≡ is_some (option_map (name_at b) (place_numbered n))
+    go zero k = absurd (omega (arith, k))
+    go (suc i) k = refl
 
 -- the number of a place is one more
 pub number_placed : (n i : ℕ) → place_numbered n ≡ Some i → n ≡ suc i

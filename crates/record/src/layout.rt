@@ -3,6 +3,7 @@
 ghost use Rattle.std.specs.Prelude.{IfSome, ◌≡◌, ◌+◌, ◌*◌, ◌≤◌, ◌<◌, length};
 ghost use Rattle.model.specs.declared.Kind.TheVariants.{Subgraph, Translation};
 ghost use Rattle.model.specs.Layout.{counts_length, entry_length, pair_length, entry_at, name_count, own_number, pair_count, body_start, body_length, table_at, bodies_at, from_place, to_place, name_at, shown};
+ghost use Rattle.model.specs.Opening.{is_some};
 ghost use Rattle.std.specs.Option.{option_copied};
 ghost use Rattle.record.specs.Reader.{place_numbered, counted_pairs, IsCount, IsHead, IsPart};
 
@@ -91,11 +92,13 @@ pub fn name_count(b: &[u8]) -> usize
     read16(b, 0)
 }
 
-// The own name's place, counted from 0, if there is one.
+// The own name's place, counted from 0, if there is one: there is where the buffer shows a name.
+#[tactic(auto, using(crate::proofs::Own::none_shown, crate::proofs::Own::one_shown))]
 pub fn own_place(b: &[u8]) -> Option<usize>
     requires { counts_length ≤ length b.now }
     ensures value { result ≡ place_numbered (own_number b.now) }
     ensures small { IfSome result (λ place. place < 65535) }
+    ensures named { is_some result ≡ is_some (shown b.now).name }
 {
     match read16(b, 2) {
         0 => None,

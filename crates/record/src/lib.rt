@@ -7,6 +7,7 @@
 mod layout;
 mod offsets;
 mod pairs;
+mod reader;
 mod record;
 mod rows;
 mod test;
@@ -15,13 +16,14 @@ mod writing;
 
 pub use layout::{
     Head, bodies_at, body_length, body_start, head_at, name_at, name_count, name_in, own_name,
-    pair_at, pair_count, pair_from, pair_to, part_of, table_at,
+    own_place, pair_at, pair_count, pair_from, pair_to, part_of, table_at,
 };
 pub use offsets::{
     MAX_BODIES_BYTES, MAX_NAME_BYTES, MAX_NAMES, MAX_PAIRS, PAIR_LENGTH, RECORD_LENGTH,
     empty_record,
 };
 pub use pairs::Pairs;
+pub use reader::Reader;
 pub use record::Record;
 pub use rows::Rows;
 pub use validity::{check, check_both, is_record};

@@ -6,17 +6,16 @@ ghost use Rattle.model.specs.Opening.{is_some, opened, record_in, two_records};
 ghost use Rattle.model.specs.Questions.{mapped, part_of, pair_parts, pairs_of};
 
 use crate::layout;
-use crate::layout::{Head, head_at, part_of};
 use crate::pairs::Pairs;
+use crate::reader::Reader;
 use crate::validity::{check, check_both};
 use model::{Fault, Kind, PairParts, Part};
 use std::marker::Model;
 
-// A buffer that is a record, and what it counts. A rule of the project has the record's reader keep both, above functions on slice and numbers.
-#[derive(Drop)]
+// A buffer that is a record, with what it counts: a reader whose buffer passed the test. The reader is copied where the record can't be.
+#[derive(Clone, Drop)]
 pub struct Record<'a> {
-    bytes: &'a [u8],
-    head: Head,
+    reader: Reader<'a>,
 }
 
 impl<'a> Model for Record<'a> {
@@ -26,9 +25,9 @@ impl<'a> Model for Record<'a> {
 
     ghost Value = { GraphName };
 
-    ghost view = { λ r. shown r.bytes.now };
+    ghost view = { λ r. shown r.reader.bytes.now };
 
-    ghost invariant = { λ r. IsReader r.bytes.now r.head };
+    ghost invariant = { λ r. IsReader r.reader.bytes.now r.reader.head };
 }
 
 impl<'a> Record<'a> {
@@ -58,9 +57,17 @@ impl<'a> Record<'a> {
         ensures { result ≡ shown b.now }
     {
         Record {
-            bytes: b,
-            head: head_at(b),
+            reader: Reader::open(b),
         }
+    }
+
+    // Its reader.
+    pub fn reader(&self) -> Reader<'a>
+        ensures value { shown result.bytes.now ≡ self.now }
+        ensures held { HoldsRecord result.bytes.now }
+    {
+        let Record { reader } = self;
+        *reader
     }
 
     // The buffer.
@@ -68,7 +75,7 @@ impl<'a> Record<'a> {
         ensures value { shown result.now ≡ self.now }
         ensures held { HoldsRecord result.now }
     {
-        self.bytes
+        self.reader.bytes
     }
 
     // How many names there are.
@@ -76,7 +83,7 @@ impl<'a> Record<'a> {
         ensures value { result ≡ length (names self.now) }
         ensures most { result ≤ max_names }
     {
-        self.head.names
+        self.reader.head.names
     }
 
     // How many pairs of a kind there are.
@@ -84,7 +91,7 @@ impl<'a> Record<'a> {
         ensures value { result ≡ length (pairs_of kind self.now) }
         ensures most { result ≤ max_pairs }
     {
-        self.head.pairs(kind)
+        self.reader.head.pairs(kind)
     }
 
     // The pairs of a kind, one by one; and that the names of a record are short.
@@ -92,21 +99,21 @@ impl<'a> Record<'a> {
         ensures value { pairs_left result ≡ pairs_of kind self.now }
         ensures short { any_long (names self.now) ≡ false }
     {
-        Pairs::of(self.bytes, kind)
+        Pairs::of(self.reader.bytes, kind)
     }
 
     // The own name, if there is one.
     pub fn own_name(&self) -> Option<&'a [u8]>
         ensures { option_copied result ≡ self.now.name }
     {
-        layout::own_name(self.bytes)
+        layout::own_name(self.reader.bytes)
     }
 
     // The place of the own name, if there is one.
     pub fn own_place(&self) -> Option<usize>
         ensures { IsOwnPlace self.now result }
     {
-        layout::own_place(self.bytes)
+        layout::own_place(self.reader.bytes)
     }
 
     // Where the own name stands, if there is one.
@@ -114,8 +121,8 @@ impl<'a> Record<'a> {
     pub fn own_part(&self) -> Option<Part>
         ensures { result ≡ mapped (part_of self.now) self.now.name }
     {
-        let place = layout::own_place(self.bytes)?;
-        Some(part_of(self.bytes, self.head, place))
+        let place = layout::own_place(self.reader.bytes)?;
+        Some(self.reader.part(place))
     }
 
     // Where the name at a place stands, if there are as many.
@@ -123,10 +130,10 @@ impl<'a> Record<'a> {
     pub fn part(&self, i: usize) -> Option<Part>
         ensures { result ≡ mapped (part_of self.now) (slice_get (names self.now) i) }
     {
-        if self.head.names <= i {
+        if self.reader.head.names <= i {
             return None;
         }
-        Some(part_of(self.bytes, self.head, i))
+        Some(self.reader.part(i))
     }
 
     // Where the names of the pair of a kind at a place stand, if there are as many.
@@ -134,15 +141,16 @@ impl<'a> Record<'a> {
     pub fn pair_parts(&self, kind: Kind, i: usize) -> Option<PairParts>
         ensures { result ≡ mapped (pair_parts self.now) (slice_get (pairs_of kind self.now) i) }
     {
-        let b = self.bytes;
-        let head = self.head;
+        let reader = self.reader;
+        let b = reader.bytes;
+        let head = reader.head;
         if head.pairs(kind) <= i {
             return None;
         }
         let at = layout::pair_at(b, kind, i);
         Some(PairParts {
-            from: part_of(b, head, layout::pair_from(b, at)),
-            to: part_of(b, head, layout::pair_to(b, at)),
+            from: reader.part(layout::pair_from(b, at)),
+            to: reader.part(layout::pair_to(b, at)),
         })
     }
 }

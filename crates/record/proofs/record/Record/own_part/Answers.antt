@@ -6,4 +6,4 @@ use Rattle.record.proofs.record.Record.own_part.Goals as goal
 pub returns : goal.returns
 returns c =
     rw (← c.self.view_is)
-    (own_part_there _ c.self.invariant.holds c.in_ok-place.place _ (sym c.own_place.ensures.value ∙ c.in_ok-place.was) c.part_of.ensures)
+    (own_part_there _ c.self.invariant.holds c.in_ok-place.place _ (sym c.own_place.ensures.value ∙ c.in_ok-place.was) c.part.ensures)

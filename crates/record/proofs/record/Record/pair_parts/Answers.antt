@@ -8,4 +8,4 @@ returns c =
     let k = c.args.kind in
     rw (← c.self.view_is)
     (pair_parts_there _ r.holds k c.args.i _ _ (rw (← pairs_head _ _ r k, ← c.pairs.ensures) c.if-pairs-i.false)
-    (rw (← c.pair_at-at.ensures, ← c.pair_from.ensures.0) c.part_of.ensures) (rw (← c.pair_at-at.ensures, ← c.pair_to.ensures.0) c.part_of-2.ensures))
+    (rw (← c.pair_at-at.ensures, ← c.pair_from.ensures.0) c.part.ensures) (rw (← c.pair_at-at.ensures, ← c.pair_to.ensures.0) c.part-2.ensures))
