@@ -3,7 +3,7 @@ use Rattle.std.proofs.Common.{◌≡◌, refl, ap, sym, ◌∙◌, Bool, true, f
 use Rattle.std.specs.Prelude.{Option, Some, None}
 use Rattle.model.specs.declared.Kind.{Kind}
 use Rattle.model.specs.Bytes.{Bytes, compare_bytes}
-use Rattle.model.specs.Record.{Pair, GraphName, insert, names, any_long, bodies, with_pair, judge, max_name_bytes, max_names, max_pairs, max_bodies_bytes}
+use Rattle.model.specs.Record.{Pair, GraphName, insert, names, any_long, bodies, with_name, with_pair, judge, max_name_bytes, max_names, max_pairs, max_bodies_bytes}
 use Rattle.model.specs.Statements.{Ascending}
 use Rattle.model.specs.Reading.{wrong, judged}
 use Rattle.text.proofs.Order.{bytes_order}
@@ -44,6 +44,12 @@ module _ (k : Kind) (from to : Bytes) (g : GraphName) where
 
   pub long_to : max_name_bytes < length to → wrong 11 ≡ judged (with_pair k pair g)
   long_to l = long_pair (rw (lt-ltb max_name_bytes (length to) l) refl)
+
+pub long_name : (x : Bytes) (g : GraphName) → max_name_bytes < length x → wrong 11 ≡ judged (with_name x g)
+long_name x g l = sym (judged_long (with_name x g) m)
+  where
+    m : any_long (names (with_name x g)) ≡ true
+    m = ap any_long (names_owned (Some x) g) ∙ any_insert x (names (owned None g)) ∙ rw (lt-ltb max_name_bytes (length x) l) refl
 
 -- ------------------------------------------------------------------ the room for a pair
 

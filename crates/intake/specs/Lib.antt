@@ -1,2 +1,3 @@
--- What a field taken comes to.
+-- What a field taken comes to, and the own name that is kept.
+pub mod Own
 pub mod State

@@ -1,5 +1,6 @@
 // The state of a reading: pairs are put into the working tables, the own name is kept apart, and the sizes are judged on what stands then.
 ghost use Rattle.std.specs.Prelude.{◌≡◌, length, IfOk};
+ghost use Rattle.std.specs.Option.{option_copied};
 ghost use Rattle.model.specs.Record.{empty, with_name, with_pair, judge};
 ghost use Rattle.model.specs.Layout.{record_length, encode};
 ghost use Rattle.model.specs.Opening.{number_of};
@@ -8,6 +9,7 @@ ghost use Rattle.fields.specs.Fields.{apply};
 ghost use Rattle.fields.specs.Contents.{meaning_of, PlacesIn};
 ghost use Rattle.intake.specs.State.{taken_of};
 
+use arrayvec::ArrayVec;
 use fields::Content;
 use model::{Fault, Kind};
 use record::{MAX_BODIES_BYTES, MAX_NAME_BYTES, MAX_NAMES, MAX_PAIRS};
@@ -23,31 +25,31 @@ const PAIR_ROOM: usize = MAX_PAIRS + 1;
 // Room for the bodies of the names of a full record, and of a field more.
 const POOL_ROOM: usize = MAX_BODIES_BYTES + 2 * MAX_NAME_BYTES;
 
-// What a reading has so far: the tables with all pairs, and the own name, if there is one, which stands in the text.
+// What a reading has so far: the tables with all pairs, and the own name, if there is one, which is copied from the text.
 #[derive(Drop)]
-pub struct State<'a> {
+pub struct State {
     tables: Tables<NAME_ROOM, PAIR_ROOM, POOL_ROOM>,
-    own: Option<&'a [u8]>,
+    own: Option<ArrayVec<u8, MAX_NAME_BYTES>>,
 }
 
 // Clauses see the graph name so far; the tables have no names but those of its pairs.
-impl<'a> Model for State<'a> {
+impl Model for State {
     ghost use Rattle.std.specs.Prelude.{None};
-    ghost use Rattle.std.specs.Option.{option_copied};
     ghost use Rattle.model.specs.Record.{GraphName};
+    ghost use Rattle.intake.specs.Own.{own_of};
     ghost use Rattle.sorted.specs.Tables.{graph_in};
     ghost use Rattle.sorted.specs.Loading.{owned, Good};
 
     ghost Value = { GraphName };
 
-    ghost view = { λ s. owned (option_copied s.own) (graph_in s.tables) };
+    ghost view = { λ s. owned (own_of s.own) (graph_in s.tables) };
 
     ghost invariant = { λ s. Good None s.tables };
 }
 
-impl<'a> State<'a> {
+impl State {
     // The state in which nothing is taken yet.
-    pub fn new() -> State<'a>
+    pub fn new() -> State
         ensures { result ≡ empty }
     {
         State {
@@ -56,19 +58,36 @@ impl<'a> State<'a> {
         }
     }
 
+    // The own name so far, if there is one.
+    fn own_name(&self) -> Option<&[u8]>
+        ensures { option_copied result ≡ self.now.name }
+    {
+        match &self.own {
+            None => None,
+            Some(own) => Some(own.as_slice()),
+        }
+    }
+
     // What is over its limit of the graph name so far.
     fn judge(&self) -> Result<(), Fault>
         ensures { number_of result ≡ judge self.now }
     {
-        tables::size_fault(&self.tables, self.own)
+        let own = self.own_name();
+        tables::size_fault(&self.tables, own)
     }
 
     // Takes an own name, in the place of the one before.
-    fn take_name(&mut self, name: &'a [u8]) -> Result<(), Fault>
+    #[tactic(auto, using(crate::proofs::Progress::long_name))]
+    fn take_name(&mut self, name: &[u8]) -> Result<(), Fault>
         ensures taken { taken_of result self.new ≡ judged (with_name name.now self.old) }
         ensures sizes { IfOk result (λ _. judge self.new ≡ 0) }
     {
-        self.own = Some(name);
+        if MAX_NAME_BYTES < name.len() {
+            return Err(Fault::LongName);
+        }
+        let mut own = ArrayVec::new();
+        own.try_extend_from_slice(name).unwrap();
+        self.own = Some(own);
         self.judge()
     }
 
@@ -87,7 +106,7 @@ impl<'a> State<'a> {
     }
 
     // Takes a field with what it says. The first fault ends the reading.
-    pub fn take_field(&mut self, f: &'a [u8], content: Result<Content, Fault>) -> Result<(), Fault>
+    pub fn take_field(&mut self, f: &[u8], content: Result<Content, Fault>) -> Result<(), Fault>
         requires sizes { judge self.old ≡ 0 }
         requires places { PlacesIn f.now content }
         ensures taken { taken_of result self.new ≡ apply self.old (meaning_of f.now content) }
@@ -111,10 +130,10 @@ impl<'a> State<'a> {
         ensures stored { buffer.new ≡ encode self.old }
         ensures anew { self.new ≡ empty }
     {
-        match self.own {
+        match &self.own {
             None => tables::store(&self.tables, None, buffer),
             Some(name) => {
-                let place = self.tables.put_name(0, name);
+                let place = self.tables.put_name(0, name.as_slice());
                 tables::store(&self.tables, Some(place), buffer);
             }
         }

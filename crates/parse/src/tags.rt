@@ -17,7 +17,7 @@ use record::RECORD_LENGTH;
 
 // The name's tag, if it is there.
 #[tactic(auto, unfolding(model::specs::Reading::name_value))]
-fn read_name<'a>(name: Option<&'a [u8]>, state: &mut State<'a>) -> Result<(), Refusal>
+fn read_name(name: Option<&[u8]>, state: &mut State) -> Result<(), Refusal>
     requires { judge state.old ≡ 0 }
     ensures reading { reading_of result state.new ≡ name_value (option_copied name.entry) state.old }
     ensures sizes { IfOk result (λ _. judge state.new ≡ 0) }
@@ -30,7 +30,7 @@ fn read_name<'a>(name: Option<&'a [u8]>, state: &mut State<'a>) -> Result<(), Re
 
 // The tag of a kind of relation, if it is there.
 #[tactic(auto, using(fields::proofs::Rest::tag_start), unfolding(model::specs::Reading::tag_value))]
-fn read_tag<'a>(kind: Kind, value: Option<&'a [u8]>, state: &mut State<'a>) -> Result<(), Refusal>
+fn read_tag(kind: Kind, value: Option<&[u8]>, state: &mut State) -> Result<(), Refusal>
     requires { judge state.old ≡ 0 }
     ensures reading { reading_of result state.new ≡ tag_value (tag_number kind) (add_to kind) (option_copied value.entry) state.old }
     ensures sizes { IfOk result (λ _. judge state.new ≡ 0) }
@@ -43,11 +43,11 @@ fn read_tag<'a>(kind: Kind, value: Option<&'a [u8]>, state: &mut State<'a>) -> R
 
 // The three tags, where nothing is taken yet.
 #[tactic(auto, using(crate::proofs::TagValues::in_turn), unfolding(model::specs::Reading::from_tags))]
-fn read_tags<'a>(
-    name: Option<&'a [u8]>,
-    subgraph: Option<&'a [u8]>,
-    translation: Option<&'a [u8]>,
-    state: &mut State<'a>,
+fn read_tags(
+    name: Option<&[u8]>,
+    subgraph: Option<&[u8]>,
+    translation: Option<&[u8]>,
+    state: &mut State,
 ) -> Result<(), Refusal>
     requires { state.old ≡ empty }
     ensures reading { reading_of result state.new ≡ from_tags (option_copied name.entry) (option_copied subgraph.entry) (option_copied translation.entry) }

@@ -1,7 +1,8 @@
 -- As the tables stand, or with the own name put in (`Stored`).
-use Rattle.std.proofs.Common.{ap, arith, ◌∙◌}
-use Rattle.std.specs.Option.{option_copied}
+use Rattle.std.proofs.Common.{ap, sym, arith, ◌∙◌}
+use Rattle.std.specs.Prelude.{Some}
 use Rattle.model.specs.Layout.{encode}
+use Rattle.intake.specs.Own.{own_of}
 use Rattle.intake.proofs.Stored.{graph_none, stored_none, name_room, graph_own, stored_own}
 use Rattle.intake.proofs.state.State.store.Goals.{in-None, in-Some}
 use Rattle.intake.proofs.state.State.store.Goals as goal
@@ -9,25 +10,25 @@ use Rattle.intake.proofs.state.State.store.Goals as goal
 pub store-requires : goal.store-requires
 store-requires c = (
   omega arith,
-  (stored_none c.self.invariant c.self.view_is c.requires.sizes (ap option_copied c.in-None.is), c.requires.room),
+  (stored_none c.self.invariant c.self.view_is c.requires.sizes (ap own_of c.in-None.is), c.requires.room),
 )
 
 pub put_name-place-requires : goal.put_name-place-requires
 put_name-place-requires c = (
   omega arith,
-  name_room c.self.invariant c.self.view_is c.requires.sizes (ap option_copied c.in-Some.is),
+  name_room c.self.invariant c.self.view_is c.requires.sizes (ap own_of c.in-Some.is ∙ ap Some (sym c.as_slice.ensures.value)),
 )
 
 pub store-requires-in-Some : goal.store-requires-in-Some
 store-requires-in-Some c = (
   omega arith,
-  (stored_own c.self.invariant c.self.view_is c.requires.sizes (ap option_copied c.in-Some.is) c.put_name-place.ensures, c.requires.room),
+  (stored_own c.self.invariant c.self.view_is c.requires.sizes (ap own_of c.in-Some.is ∙ ap Some (sym c.as_slice.ensures.value)) c.put_name-place.ensures, c.requires.room),
 )
 
 pub returns-clause-stored : goal.returns-clause-stored
 returns-clause-stored c = elim c.match-self.branch [
-  | in-None w ↦ w.buffer-is ∙ w.store.ensures ∙ ap encode (graph_none c.self.invariant c.self.view_is c.requires.sizes (ap option_copied w.in-None.is))
+  | in-None w ↦ w.buffer-is ∙ w.store.ensures ∙ ap encode (graph_none c.self.invariant c.self.view_is c.requires.sizes (ap own_of w.in-None.is))
   | in-Some w ↦
       w.buffer-is ∙ w.store-in-Some.ensures
-      ∙ ap encode (graph_own c.self.invariant c.self.view_is c.requires.sizes (ap option_copied w.in-Some.is) w.put_name-place.ensures)
+      ∙ ap encode (graph_own c.self.invariant c.self.view_is c.requires.sizes (ap own_of w.in-Some.is ∙ ap Some (sym w.as_slice.ensures.value)) w.put_name-place.ensures)
 ]
