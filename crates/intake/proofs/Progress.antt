@@ -12,7 +12,7 @@ use Rattle.text.proofs.Tests.{either_true}
 use Rattle.text.proofs.Total.{total, total_count, total_bodies, ascending_once, total_part}
 use Rattle.record.proofs.Sizes.{judge_sizes}
 use Rattle.sorted.specs.Tables.{Tables, table_names, graph_in, PairRoom}
-use Rattle.sorted.specs.Loading.{Limited, owned, Good}
+use Rattle.sorted.specs.Loading.{sizes_of, Limited, owned, Good}
 use Rattle.sorted.proofs.Search.{length_names}
 use Rattle.sorted.proofs.Pairs.{names_with_pair}
 use Rattle.tables.specs.Judging.{names_and}
@@ -64,6 +64,16 @@ with_more (Some x) ns a =
   where
     more : (f : Bytes → ℕ) → total f ns ≤ total f (insert compare_bytes x ns)
     more f = total_part f ns (insert compare_bytes x ns) (ascending_once bytes_order ns a) (λ y m. (insert_members bytes_order x ns y).1 (inr m))
+
+-- what is in use is what the graph name of all pairs takes
+pub sizes_in_use : (t : Tables) → Good None t → t.sizes ≡ sizes_of (owned None (graph_in t))
+sizes_in_use t good = rw (
+    good.used,
+    length_names t.pool t.sizes.names t.refs good.kept.count,
+    ← good.kept.total,
+    length_shown (table_names t) t.sizes.subgraph t.subs good.kept.subgraph.within,
+    length_shown (table_names t) t.sizes.translation t.trans good.kept.translation.within,
+  ) refl
 
 module _ (t : Tables) (own : Option Bytes) (good : Good None t) where
   abbrev so_far : GraphName

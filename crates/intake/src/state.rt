@@ -1,5 +1,5 @@
 // The state of a reading: pairs are put into the working tables, the own name is kept apart, and the sizes are judged on what stands then.
-ghost use Rattle.std.specs.Prelude.{◌≡◌, length, IfOk};
+ghost use Rattle.std.specs.Prelude.{◌≡◌, length, IfOk, None};
 ghost use Rattle.std.specs.Option.{option_copied};
 ghost use Rattle.model.specs.Record.{empty, with_name, with_pair, judge};
 ghost use Rattle.model.specs.Layout.{record_length, encode};
@@ -7,13 +7,14 @@ ghost use Rattle.model.specs.Opening.{number_of};
 ghost use Rattle.model.specs.Reading.{judged};
 ghost use Rattle.fields.specs.Fields.{apply};
 ghost use Rattle.fields.specs.Contents.{meaning_of, PlacesIn};
+ghost use Rattle.sorted.specs.Loading.{sizes_of, owned};
 ghost use Rattle.intake.specs.State.{taken_of};
 
 use arrayvec::ArrayVec;
 use fields::Content;
 use model::{Fault, Kind};
 use record::{MAX_BODIES_BYTES, MAX_NAME_BYTES, MAX_NAMES, MAX_PAIRS};
-use sorted::Tables;
+use sorted::{Sizes, Tables};
 use std::marker::Model;
 
 // Room for the names of a full record, and of a field more.
@@ -58,8 +59,16 @@ impl State {
         }
     }
 
+    // How much of the tables is in use, by the names of all pairs; the own name is kept beside them.
+    #[tactic(auto, using(crate::proofs::Progress::sizes_in_use))]
+    pub fn sizes(&self) -> Sizes
+        ensures { result ≡ sizes_of (owned None self.now) }
+    {
+        self.tables.sizes()
+    }
+
     // The own name so far, if there is one.
-    fn own_name(&self) -> Option<&[u8]>
+    pub fn own_name(&self) -> Option<&[u8]>
         ensures { option_copied result ≡ self.now.name }
     {
         match &self.own {
