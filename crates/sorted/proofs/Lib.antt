@@ -1,4 +1,5 @@
 -- Ascending numbers and what is put into them; names and pairs put into the tables; what is known of records, and one loaded.
+pub mod Before
 pub mod Lower
 pub mod Splice
 pub mod Renumber
