@@ -188,7 +188,8 @@ module _ (b : Bytes) (a : AllBytes b) where
 -- ------------------------------------------------------------------ the parts of the test
 
 module _ (b : Bytes) (a : (i : ℕ) → get_or b i 0 < 256) where
-  is_tag_block_lem : is_tag_block b ≡ is_some (decode_tags b)
+  -- a block is a tag list exactly if it passes the test
+  pub is_tag_block_lem : is_tag_block b ≡ is_some (decode_tags b)
   is_tag_block_lem = both_ways (is_tag_block b) (is_some (decode_tags b)) (λ e. rw (passed b a e)) (λ e. go (decode_tags b) refl e)
     where
       go : (o : Option (List Tag)) → decode_tags b ≡ o → is_some o ≡ true → is_tag_block b ≡ true

@@ -15,4 +15,6 @@ mod test;
 pub use key::Key;
 pub use list::{Found, TagList, check_list};
 pub use look_up::{contains_key, counts, get, tag_place};
-pub use sizes::{MAX_KEY, MAX_TAGS, MAX_VALUE, TAG_ENTRY_LENGTH, TAGS_LENGTH, entry_start};
+pub use sizes::{
+    MAX_KEY, MAX_TAGS, MAX_VALUE, TAG_COUNT_LENGTH, TAG_ENTRY_LENGTH, TAGS_LENGTH, entry_start,
+};

@@ -12,7 +12,7 @@ pub const MAX_KEY: usize = 64;
 pub const MAX_VALUE: usize = 8192;
 
 // The count that a list begins with.
-const TAG_COUNT_LENGTH: usize = 4;
+pub const TAG_COUNT_LENGTH: usize = 4;
 
 // The lengths of a key and of its value.
 pub const TAG_ENTRY_LENGTH: usize = 8;
