@@ -1,7 +1,8 @@
 // Writing a record as header lines and tags, and a refusal as the Rust's error text; and the laws that such a text reads back
 // as the same record.
 //
-// A public function takes any slices of any length and equals a definition of `model/specs/Written.antt`.
+// A public function takes any slices of any length and equals a definition of `model/specs/Written.antt`; `write_text`, by which each writes its
+// text, takes a closure that may be called.
 #![tactic(auto)]
 
 mod header;
