@@ -1,6 +1,6 @@
 // Records: the test of a buffer, and where things stand in one.
 //
-// The functions of `validity` take any slice of any length. Those of `layout` and `writing` ask that what they read or write
+// The functions of `validity` take any slice of any length. Those of `layout`, `reader` and `writing` ask that what they read or write
 // lies within the slice.
 #![tactic(auto)]
 
