@@ -24,7 +24,7 @@ fields_bound i seen (f ∷ fs) n e = go (fine_field f && not (has_tag (take 2 f)
     go true d rest = let h = rest (sym (rw d) ∙ e) in omega arith
     go false d rest = let h = same_number i n (sym (rw d) ∙ e) in omega arith
 
-split_length : (sep : ℕ) (s : Bytes) → length (split sep s) ≤ length s + 1
+pub split_length : (sep : ℕ) (s : Bytes) → length (split sep s) ≤ length s + 1
 unfolding split
 split_length sep [] = omega arith
 split_length sep (x ∷ xs) = go (eqb x sep) (split sep xs) (split_length sep xs)

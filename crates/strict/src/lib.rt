@@ -4,6 +4,7 @@
 mod class;
 mod line;
 mod number;
+mod parts;
 mod tag;
 mod value;
 

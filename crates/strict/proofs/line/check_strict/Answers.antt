@@ -1,58 +1,37 @@
--- Each turn has the next field and its number, since the fields are counted from 0.
-use Rattle.std.proofs.Common.{◌∙◌, eqb, rules, tests, sym}
+-- The first field decides, and then each field behind it, with its number.
+use mathlib.Core.Logic.{inl}
+use Rattle.std.proofs.Common.{◌∙◌, sym, arith}
 use Rattle.std.proofs.lemmas.Bool.{MatchBool-at_true, MatchBool-at_false}
-use Rattle.std.proofs.lemmas.List.{length_push}
-use Rattle.std.proofs.lemmas.Iterator.Splits.{YieldsList-from_slice_split}
-use Rattle.std.proofs.lemmas.Iterator.Consumers.{YieldsList-from_enumerate, YieldsList-turn, YieldsList-end}
-use Rattle.strict.proofs.Lines.{read_none, read_all, first_field, next_field}
+use Rattle.strict.proofs.Lines.{read_other, read_none, read_all, next_field}
 use Rattle.strict.proofs.line.check_strict.Goals as goal
-use Rattle.strict.proofs.line.check_strict.Goals.{then-number-eq0, else-number-eq0}
 
-pub loop-number-init : goal.loop-number-init
-loop-number-init c = read_none _ _ c.new-tags.ensures
+pub returns-then-ne : goal.returns-then-ne
+returns-then-ne c =
+    sym (read_other c.args.line.now c.of-fields.ensures _ _ c.next.ensures.steps _ c.as_slice.ensures (sym c.ne.ensures ∙ c.if-ne.true))
 
-pub returns-then-not-fine : goal.returns-then-not-fine
-returns-then-not-fine c =
-    let t =
-    YieldsList-turn
-    (YieldsList-from_enumerate
-    (YieldsList-from_slice_split _ (λ x. eqb x 9) c.args.line.now (cc) (cc) (cc) (λ x b q k. search (rules, tests)))
-    (cc))
-    c.loop-number.yielded _ c.loop-number.yielded_by _ _ (c.in-Some.number, c.in-Some.field) c.in-Some.is c.next.ensures.steps in
-    elim c.if-number-eq0.branch [
-      | then-number-eq0 w ↦
-          sym (MatchBool-at_false _ _ (sym w.fine-is ∙ c.if-not-fine.true)
-          (first_field c.loop-number.invariant _ t.0 t.1 w.if-number-eq0.true w.eq-fine.result (rw (← w.as_slice.ensures) w.eq-fine.ensures)))
-      | else-number-eq0 w ↦
-          sym (MatchBool-at_false _ _ (sym w.fine-is ∙ c.if-not-fine.true)
-          (next_field c.loop-number.invariant _ t.0 t.1 w.if-number-eq0.false w.take-fine.result w.take-fine.ensures.value _ w.take-fine.ensures.seen_after))
-    ]
+pub loop-place-init : goal.loop-place-init
+loop-place-init c =
+    let r = read_none c.args.line.now c.of-fields.ensures _ _ c.next.ensures.steps _ c.as_slice.ensures (sym c.ne.ensures ∙ c.if-ne.false) _ c.new-tags.ensures in
+    rw (c.into_iter-place-iterator.ensures.into_iter_gives, c.enumerate-place-items.ensures.source, c.enumerate-place-items.ensures.count) record {
+      reading = r;
+      goes = ((_, _, inl (omega (arith, r.few))), _);
+    }
 
-pub loop-number-preserved : goal.loop-number-preserved
-loop-number-preserved c =
-    let t =
-    YieldsList-turn
-    (YieldsList-from_enumerate
-    (YieldsList-from_slice_split _ (λ x. eqb x 9) c.args.line.now (cc) (cc) (cc) (λ x b q k. search (rules, tests)))
-    (cc))
-    c.loop-number.yielded _ c.loop-number.yielded_by _ _ (c.in-Some.number, c.in-Some.field) c.in-Some.is c.next.ensures.steps in
-    elim c.if-number-eq0.branch [
-      | then-number-eq0 w ↦
-          rw (w.tags-is, length_push)
-          (MatchBool-at_true _ _ (sym w.fine-is ∙ c.if-not-fine.false)
-          (first_field c.loop-number.invariant _ t.0 t.1 w.if-number-eq0.true w.eq-fine.result (rw (← w.as_slice.ensures) w.eq-fine.ensures)))
-      | else-number-eq0 w ↦
-          rw (w.tags-is, length_push)
-          (MatchBool-at_true _ _ (sym w.fine-is ∙ c.if-not-fine.false)
-          (next_field c.loop-number.invariant _ t.0 t.1 w.if-number-eq0.false w.take-fine.result w.take-fine.ensures.value _ w.take-fine.ensures.seen_after))
-    ]
+pub returns-then-not-take : goal.returns-then-not-take
+returns-then-not-take c =
+    let s = c.in-Some.ensures.steps in
+    let t = c.take.ensures in
+    rw s.1 (sym (MatchBool-at_false _ _ c.if-not-take.true (next_field c.loop-place.invariant.reading s.0 c.take.result t.value _ t.seen_after)))
+
+pub loop-place-preserved : goal.loop-place-preserved
+loop-place-preserved c =
+    let s = c.in-Some.ensures.steps in
+    let t = c.take.ensures in
+    let r = MatchBool-at_true _ _ c.if-not-take.false (next_field c.loop-place.invariant.reading s.0 c.take.result t.value _ t.seen_after) in
+    rw s.2 record {
+      reading = r;
+      goes = ((_, _, inl (omega (arith, r.few))), _);
+    }
 
 pub returns : goal.returns
-returns c =
-    let t =
-    YieldsList-end
-    (YieldsList-from_enumerate
-    (YieldsList-from_slice_split _ (λ x. eqb x 9) c.args.line.now (cc) (cc) (cc) (λ x b q k. search (rules, tests)))
-    (cc))
-    c.loop-number.yielded _ c.loop-number.yielded_by _ _ c.in-None.is c.next.ensures.steps in
-    sym (read_all c.loop-number.invariant t.1)
+returns c = sym (read_all c.loop-place.invariant.reading c.in-None.ensures.steps.0.0)

@@ -1,7 +1,10 @@
 -- The table has the tags of the fields read, and the fields left decide.
-use Rattle.std.proofs.Common.{length}
+use Rattle.strict.specs.Parts.{parts_left}
 use Rattle.strict.proofs.Lines.{Reading}
 use Rattle.strict.proofs.line.check_strict.Given as goal
 
-abbrev pub invariant-loop-number : goal.invariant-loop-number
-invariant-loop-number l = Reading l.line l.tags.seen (length l.yielded)
+abbrev pub invariant-loop-place : goal.invariant-loop-place
+invariant-loop-place l = record {
+  reading : Reading l.line l.tags.seen l.place-iterator.count (parts_left l.place-iterator.iter);
+  goes : (goal.iterator-loop-place).can_next l.place-iterator × (goal.iterator-loop-place).is_finite l.place-iterator;
+}
