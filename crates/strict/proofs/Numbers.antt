@@ -1,20 +1,15 @@
 -- A number read byte by byte has the test of its expression: each state has a test of what may follow, and a byte leads from one to the next.
 use mathlib.Core.Path.{◌≡◌, refl, sym, ap, ◌∙◌}
 use mathlib.Core.Bool.{Bool, true, false, cond, ◌&&◌, ◌||◌, false≢true, and-eq-true_iff, and-true, and-false, or-false, or_assoc, or_comm, or_self}
-use mathlib.Core.List.{List, [], ◌∷◌}
-use Prim.Native.Nat.{ℕ, suc}
-use native.Mathlib.Numerals.{add-one}
-use lib.ListN.{length}
-use native.Mathlib.Omega.{arith}
+use mathlib.Core.List.{[], ◌∷◌}
+use Prim.Native.Nat.{ℕ}
 use lib.Dec.{eqb}
 use borrow.Author.Tests.{eqb-true, eqb-false, ne_eqb}
-use Rattle.std.specs.List.{list_all, slice_split, onto_first}
-use Rattle.std.proofs.lemmas.List.Splits.{length-slice_split}
 use Rattle.model.specs.Bytes.{Bytes}
 use Rattle.model.specs.Strict.{Regex, epsilon, one, seq, alt, plus, opt, byte, one_of, sign, digit, integer, float, nullable, after, matches}
 use Rattle.strict.specs.Class.{is_one_of}
-use Rattle.std.specs.Prelude.{Option, Some, None, option_map, option_and_then, unwrap_or}
-use Rattle.strict.specs.Number.{signs, exponents, after_digit, after_sign, after_number, next, ends, read, run}
+use Rattle.std.specs.Prelude.{Option, Some, None, option_and_then}
+use Rattle.strict.specs.Number.{signs, exponents, after_digit, after_sign, after_number, next, next_listed, ends, ended, read, read_list}
 use Rattle.strict.specs.declared.number.Number.{Number}
 use Rattle.strict.specs.declared.number.Number.TheVariants.{Float, Unsigned, Whole, Point, Fraction, Integer, UnsignedInteger, Digits}
 use Rattle.strict.proofs.Sequences.{never_fails, seq_seq, alt_or, seq_opt, seq_plus, seq_one, seq_one_of, seq_run}
@@ -221,10 +216,6 @@ left_step list Digits x s = digits_step list x s
 
 -- ------------------------------------------------------------------ one number, and numbers between commas
 
--- whether a number may end, if there is one
-abbrev ended : Option Number → Bool
-ended q = unwrap_or (option_map ends q) false
-
 ended_left : (list : Bool) (q : Option Number) → left list q [] ≡ ended q
 ended_left list None = refl
 ended_left list (Some q) = left_ends list q
@@ -240,57 +231,37 @@ same_next list Integer x e = refl
 same_next list UnsignedInteger x e = refl
 same_next list Digits x e = rw e
 
-abbrev then_next : Option Number → ℕ → Option Number
-then_next q x = option_and_then (next x) q
-
-read_step : (list : Bool) (q : Option Number) (x : ℕ) (s : Bytes) → eqb 44 x && list ≡ false → left list q (x ∷ s) ≡ left list (then_next q x) s
-read_step list None x s e = refl
-read_step list (Some q) x s e = left_step list q x s ∙ rw (same_next list q x e)
+read_step : (q : Option Number) (x : ℕ) (s : Bytes) → left false q (x ∷ s) ≡ left false (option_and_then (next x) q) s
+read_step None x s = refl
+read_step (Some q) x s = left_step false q x s ∙ rw (same_next false q x (and-false (eqb 44 x)))
 
 -- reading on from a state makes the test of what is left
 pub run_left : (q : Option Number) (s : Bytes) → ended (read q s) ≡ left false q s
 unfolding read
 run_left q [] = sym (ended_left false q)
-run_left q (x ∷ s) = run_left (then_next q x) s ∙ sym (read_step false q x s (and-false (eqb 44 x)))
+run_left q (x ∷ s) = run_left (option_and_then (next x) q) s ∙ sym (read_step q x s)
 
--- at a comma, a number that may end there gives way to the next
-comma_next : (q : Option Number) (s : Bytes) → left true q (44 ∷ s) ≡ ended q && left true (Some Float) s
-comma_next None s = refl
-comma_next (Some q) s = left_step true q 44 s ∙ go q
+-- at a comma of a list, a number that may end there gives way to the next
+list_step : (q : Option Number) (x : ℕ) (s : Bytes) → left true q (x ∷ s) ≡ left true (option_and_then (next_listed x) q) s
+list_step None x s = refl
+list_step (Some q) x s = left_step true q x s ∙ go (eqb x 44) refl
   where
-    go : (q : Number) → left true (next_in true 44 q) s ≡ ends q && left true (Some Float) s
-    go Float = refl
-    go Unsigned = refl
-    go Whole = refl
-    go Point = refl
-    go Fraction = refl
-    go Integer = refl
-    go UnsignedInteger = refl
-    go Digits = refl
+    comma : (q : Number) → left true (next_in true 44 q) s ≡ left true (cond (ends q) (Some Float) None) s
+    comma Float = refl
+    comma Unsigned = refl
+    comma Whole = refl
+    comma Point = refl
+    comma Fraction = refl
+    comma Integer = refl
+    comma UnsignedInteger = refl
+    comma Digits = refl
 
--- the first of some numbers is read on from a state
-abbrev runs_from : Option Number → List Bytes → Bool
-runs_from q [] = true
-runs_from q (w ∷ ws) = ended (read q w) && list_all (run Float) ws
+    go : (t : Bool) → eqb x 44 ≡ t → left true (next_in true x q) s ≡ left true (cond t (cond (ends q) (Some Float) None) (next x q)) s
+    go true e = rw (eqb-true x 44 e) (comma q)
+    go false e = rw (same_next true q x (rw (ne_eqb 44 x (λ p. eqb-false x 44 e (sym p)))))
 
-runs_all : (ws : List Bytes) → runs_from (Some Float) ws ≡ list_all (run Float) ws
-runs_all [] = refl
-runs_all (w ∷ ws) = refl
-
-abbrev pub between_commas : Bytes → List Bytes
-between_commas s = slice_split (λ x. eqb x 44) s
-
-runs_left : (q : Option Number) (s : Bytes) → runs_from q (between_commas s) ≡ left true q s
-unfolding read
-runs_left q [] = and-true (ended q) ∙ sym (ended_left true q)
-runs_left q (x ∷ s) = go (eqb x 44) refl (between_commas s) (length-slice_split (λ x. eqb x 44) s ∙ add-one _) (runs_left (Some Float) s) (runs_left (then_next q x) s)
-  where
-    go : (t : Bool) → eqb x 44 ≡ t → (ws : List Bytes) {n : ℕ} → length ws ≡ suc n → runs_from (Some Float) ws ≡ left true (Some Float) s
-        → runs_from (then_next q x) ws ≡ left true (then_next q x) s → runs_from q (cond t ([] ∷ ws) (onto_first x ws)) ≡ left true q (x ∷ s)
-    go true e ws n f g = rw (eqb-true x 44 e, sym (runs_all ws) ∙ f) (sym (comma_next q s))
-    go false e [] n f g = absurd (omega arith)
-    go false e (w ∷ ws) n f g = g ∙ sym (read_step true q x s (rw (ne_eqb 44 x (λ p. eqb-false x 44 e (sym p)))))
-
--- the numbers of a list, between commas
-pub list_left : (s : Bytes) → list_all (run Float) (between_commas s) ≡ left true (Some Float) s
-list_left s = sym (runs_all (between_commas s)) ∙ runs_left (Some Float) s
+-- and so does reading on in a list
+pub list_left : (q : Option Number) (s : Bytes) → ended (read_list q s) ≡ left true q s
+unfolding read_list
+list_left q [] = sym (ended_left true q)
+list_left q (x ∷ s) = list_left (option_and_then (next_listed x) q) s ∙ sym (list_step q x s)

@@ -16,10 +16,10 @@ use Rattle.std.specs.Prelude.{Some}
 pub use Rattle.std.proofs.lemmas.Bool.Decides.{nat_tests}
 use Rattle.std.specs.List.{list_all}
 use Rattle.strict.specs.Class.{is_one_of}
-use Rattle.strict.specs.Number.{run}
+use Rattle.strict.specs.Number.{run, run_list}
 use Rattle.strict.specs.declared.number.Number.TheVariants.{Float, Integer}
 use Rattle.strict.proofs.Sequences.{never_fails, seq_end, alt_or, seq_alt, seq_plus, seq_one, seq_one_of}
-use Rattle.strict.proofs.Numbers.{item, items_step, run_left, between_commas, list_left}
+use Rattle.strict.proofs.Numbers.{item, items_step, run_left, list_left}
 
 -- a part that goes to the end
 pub part_to_end : (n : ℕ) (v : Bytes) → take (length v - n) (drop n v) ≡ drop n v
@@ -120,13 +120,13 @@ pub ruleset values = (nat_tests, visible_value, integer_value, float_value, text
 
 -- a list: a letter of a number's width, a comma, and numbers between commas
 pub list_value : (v : Bytes)
-    → matches (value_of 66) v ≡ leb 2 (length v) && is_one_of (text "cCsSiIf") (get_or v 0 0) && eqb 44 (get_or v 1 0) && list_all (run Float) (between_commas (drop 2 v))
+    → matches (value_of 66) v ≡ leb 2 (length v) && is_one_of (text "cCsSiIf") (get_or v 0 0) && eqb 44 (get_or v 1 0) && run_list (drop 2 v)
 unfolding value_of matches nullable
 list_value [] = refl
 list_value (x ∷ []) = seq_one_of (text "cCsSiIf") (plus item) x [] ∙ and-false (is_one_of (text "cCsSiIf") x)
 list_value (x ∷ y ∷ v) =
     seq_one_of (text "cCsSiIf") (plus item) x (y ∷ v)
-    ∙ rw (sym (seq_end (plus item) (y ∷ v)) ∙ items_step y v, ← list_left v, le-leb 2 (suc (suc (length v))) (omega arith))
-    (sym (and_assoc (is_one_of (text "cCsSiIf") x) (eqb 44 y) (list_all (run Float) (between_commas v))))
+    ∙ rw (sym (seq_end (plus item) (y ∷ v)) ∙ items_step y v, ← list_left (Some Float) v, le-leb 2 (suc (suc (length v))) (omega arith))
+    (sym (and_assoc (is_one_of (text "cCsSiIf") x) (eqb 44 y) (run_list v)))
 
 pub ruleset list_cases = (nat_tests, list_value)

@@ -62,6 +62,22 @@ ends Digits = true
 unfoldable pub read : Option Number → Bytes → Option Number
 read = fold (λ q x. option_and_then (next x) q)
 
+-- whether a number may end in a state, if there is one
+abbrev pub ended : Option Number → Bool
+ended q = unwrap_or (option_map ends q) false
+
 -- whether a text, read on from a state, is a number
 abbrev pub run : Number → Bytes → Bool
-run q v = unwrap_or (option_map ends (read (Some q) v)) false
+run q v = ended (read (Some q) v)
+
+-- the state after the byte x in a list: a comma ends a number, and the next begins
+abbrev pub next_listed : ℕ → Number → Option Number
+next_listed x q = cond (eqb x 44) (cond (ends q) (Some Float) None) (next x q)
+
+-- the state after a text of a list
+unfoldable pub read_list : Option Number → Bytes → Option Number
+read_list = fold (λ q x. option_and_then (next_listed x) q)
+
+-- whether a text is numbers with commas between them
+abbrev pub run_list : Bytes → Bool
+run_list v = ended (read_list (Some Float) v)

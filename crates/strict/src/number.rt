@@ -1,6 +1,6 @@
-// Numbers as the specification writes them, read byte by byte in one pass.
+// Numbers as the specification writes them, and lists of them, read byte by byte in one pass.
 ghost use Rattle.std.specs.Prelude.{◌≡◌};
-ghost use Rattle.strict.specs.Number.{digit_after, next, ends, run};
+ghost use Rattle.strict.specs.Number.{digit_after, next, next_listed, ends, run, run_list};
 
 use crate::class::Class;
 
@@ -53,12 +53,31 @@ impl Number {
         matches!(self, Number::Whole | Number::Fraction | Number::Digits)
     }
 
+    // The state after one more byte of a list: a comma ends a number, and the next one begins.
+    fn after_in_list(self, x: u8) -> Option<Number>
+        ensures { result ≡ next_listed x self }
+    {
+        if x == b',' {
+            return self.may_end().then_some(Number::Float);
+        }
+        self.after(x)
+    }
+
     // Whether v, read on from here, is a number.
     pub(crate) fn accepts(self, v: &[u8]) -> bool
         ensures { result ≡ run self v.now }
     {
         v.iter()
             .try_fold(self, |state, x| state.after(*x))
+            .is_some_and(|state| state.may_end())
+    }
+
+    // Whether v is one number or more, with commas between them.
+    pub(crate) fn accepts_list(v: &[u8]) -> bool
+        ensures { result ≡ run_list v.now }
+    {
+        v.iter()
+            .try_fold(Number::Float, |state, x| state.after_in_list(*x))
             .is_some_and(|state| state.may_end())
     }
 }

@@ -28,10 +28,7 @@ fn is_list(v: &[u8]) -> bool
 {
     match v {
         [width, b',', numbers @ ..] => {
-            b"cCsSiIf".contains(width)
-                && numbers
-                    .split(|x| *x == b',')
-                    .all(|number| Number::Float.accepts(number))
+            b"cCsSiIf".contains(width) && Number::accepts_list(numbers)
         }
         _ => false,
     }
