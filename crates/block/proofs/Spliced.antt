@@ -4,14 +4,14 @@ use mathlib.Core.Bool.{true}
 use mathlib.Core.List.{◌++◌, append_assoc, append-nil}
 use Prim.Native.Nat.{ℕ, ◌+◌, ◌-◌, ◌≤◌, ◌<◌}
 use native.Mathlib.Omega.{arith}
-use lib.ListN.{length, take, drop, replicate, length-append, length-drop, length-replicate, replicate-append-replicate, take-append-drop}
+use lib.ListN.{length, take, drop, replicate, length-append, length-drop, length-replicate, replicate-append-replicate}
 use lib.Seq.{length-take-le, take_at, drop_at, drop-drop, take-append-le, take-take, drop-append_seam}
-use Rattle.std.specs.List.{copy_within}
 use Rattle.model.specs.Bytes.{Bytes, put, pad_to}
 use Rattle.text.specs.Blocks.{all_zero}
 use Rattle.text.proofs.Blocks.{zeros_only, zeros_replicate}
 use Rattle.text.proofs.Put.{put_rest}
 use Rattle.block.specs.Splice.{slid, spliced}
+use Rattle.block.proofs.Moves.{length_part}
 
 -- ------------------------------------------------------------------ zeros behind a text
 
@@ -31,25 +31,6 @@ put_pad_to n x t c h =
     rw (l, e, append_assoc x c r, drop_at x (c ++ r) (length t) (sym h)) (sym (append_assoc t c r))
 
 -- ------------------------------------------------------------------ the code
-
-length_part : (b : Bytes) (from n : ℕ) → from + n ≤ length b → length (take n (drop from b)) ≡ n
-length_part b from n fits = length-take-le n (drop from b) (rw length-drop (omega arith))
-
--- n bytes copied within a block
-pub copied : (b : Bytes) (from to n : ℕ) → from + n ≤ length b → copy_within b from (from + n) to ≡ put b to (take n (drop from b))
-unfolding put
-copied b from to n fits =
-    let e : from + n - from ≡ n = omega arith in
-    rw (e, length_part b from n fits) (append_assoc (take to b) (take n (drop from b)) (drop (to + n) b))
-
--- n bytes where they stand
-pub stands : (b : Bytes) (at n : ℕ) → at + n ≤ length b → b ≡ put b at (take n (drop at b))
-unfolding put
-stands b at n fits =
-    let e : drop (at + n) b ≡ drop n (drop at b) = sym (drop-drop n at b) in
-    sym (rw (length_part b at n fits, e, take-append-drop n (drop at b)) (take-append-drop at b))
-
-pub ruleset moves = (copied, stands)
 
 -- what follows a place behind which all is zero
 zeros_behind : (b : Bytes) (end p : ℕ) → end ≤ p → p ≤ length b → all_zero (drop end b) ≡ true → drop p b ≡ replicate (length b - p) 0

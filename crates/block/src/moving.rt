@@ -1,15 +1,69 @@
-// Bytes moved within a block, and cleared.
-ghost use Rattle.std.specs.Prelude.{◌≡◌, ◌+◌, ◌≤◌, length, take, drop, replicate};
+// Bytes moved within a block, and cleared. A move begins on the side that it goes to, so that no byte is written over before it is read.
+ghost use Rattle.std.specs.Prelude.{◌≡◌, ◌+◌, ◌*◌, ◌≤◌, length, take, drop, replicate};
 ghost use Rattle.model.specs.Bytes.{put};
 
+// The bytes that are moved at once: a number that is known here, so that no function from outside is called for them.
+const BLOCK: usize = 16;
+
+// Moves n blocks towards the end of b: the last block first.
+fn move_blocks_up(b: &mut [u8], from: usize, to: usize, n: usize)
+    requires { (from ≤ to) × (to + n * 16 ≤ length b.old) }
+    ensures { b.new ≡ put b.old to (take (n * 16) (drop from b.old)) }
+{
+    for i in (0..n).rev() {
+        let at = i * BLOCK;
+        b.copy_within(from + at..from + at + BLOCK, to + at);
+    }
+}
+
+// Moves n bytes towards the end of b: the last byte first.
+fn move_up(b: &mut [u8], from: usize, to: usize, n: usize)
+    requires { (from ≤ to) × (to + n ≤ length b.old) }
+    ensures { b.new ≡ put b.old to (take n (drop from b.old)) }
+{
+    let blocks = n / BLOCK;
+    for i in (blocks * BLOCK..n).rev() {
+        b[to + i] = b[from + i];
+    }
+    move_blocks_up(b, from, to, blocks);
+}
+
+// Moves n blocks towards the start of b: the first block first.
+fn move_blocks_down(b: &mut [u8], from: usize, to: usize, n: usize)
+    requires { (to ≤ from) × (from + n * 16 ≤ length b.old) }
+    ensures { b.new ≡ put b.old to (take (n * 16) (drop from b.old)) }
+{
+    for i in 0..n {
+        let at = i * BLOCK;
+        b.copy_within(from + at..from + at + BLOCK, to + at);
+    }
+}
+
+// Moves n bytes towards the start of b: the first byte first.
+fn move_down(b: &mut [u8], from: usize, to: usize, n: usize)
+    requires { (to ≤ from) × (from + n ≤ length b.old) }
+    ensures { b.new ≡ put b.old to (take n (drop from b.old)) }
+{
+    let blocks = n / BLOCK;
+    move_blocks_down(b, from, to, blocks);
+    for i in blocks * BLOCK..n {
+        b[to + i] = b[from + i];
+    }
+}
+
 // Moves n bytes from one place to another, where the two may overlap. To the place where they stand none is written.
-#[tactic(auto, using(crate::proofs::Spliced::moves))]
+#[tactic(auto, using(crate::proofs::Moves::stands))]
 pub fn move_bytes(b: &mut [u8], from: usize, to: usize, n: usize)
     requires { (from + n ≤ length b.old) × (to + n ≤ length b.old) }
     ensures { b.new ≡ put b.old to (take n (drop from b.old)) }
 {
-    if from != to {
-        b.copy_within(from..from + n, to);
+    if from == to {
+        return;
+    }
+    if from < to {
+        move_up(b, from, to, n);
+    } else {
+        move_down(b, from, to, n);
     }
 }
 
