@@ -10,9 +10,10 @@ fn append_rest(rest: &[Step], out: &mut [Step], n: usize) -> usize
     requires { n + length rest.now ≤ length out.old }
     ensures { (take result out.new ≡ take n out.old ++ rest.now) × (result ≡ n + length rest.now) }
 {
-    let end = n + rest.len();
-    out[n..end].copy_from_slice(rest);
-    end
+    for (i, step) in rest.iter().enumerate() {
+        out[n + i] = *step;
+    }
+    n + rest.len()
 }
 
 // Two ascending tables as one, what stands in both once; gives how many steps that makes.
