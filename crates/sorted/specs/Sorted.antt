@@ -1,5 +1,6 @@
--- Ascending lists by place: where an element stands or would stand, and what a search for it answers. And places after a name came in.
-use Rattle.std.specs.Prelude.{cond, List, [], ◌∷◌, ℕ, suc, ◌+◌, ◌*◌, ◌/◌, ◌%◌, leb, eqb, Result, Ok, Err}
+-- Ascending lists by place: where an element stands or would stand, and what a search for it answers. Numbers moved up for one that comes in, and
+-- places after a name came in.
+use Rattle.std.specs.Prelude.{cond, List, [], ◌∷◌, ◌++◌, ℕ, suc, ◌+◌, ◌*◌, ◌/◌, ◌%◌, take, drop, leb, eqb, Result, Ok, Err}
 use Rattle.std.specs.declared.cmp.Ordering.{Ordering}
 use Rattle.model.specs.Bytes.{by_order}
 
@@ -17,6 +18,10 @@ one_on (Err p) = Err (suc p)
 unfoldable pub sought : {A : Type 0} → (A → A → Ordering) → A → List A → Result ℕ ℕ
 sought cmp x [] = Err 0
 sought cmp x (y ∷ ys) = by_order (cmp y x) (one_on (sought cmp x ys)) (Ok 0) (Err 0)
+
+-- with those from place i up to place m one place up; at place i stands what stood there
+unfoldable pub raised : List ℕ → ℕ → ℕ → List ℕ
+raised xs m i = take (i + 1) xs ++ (drop i (take m xs) ++ drop (m + 1) xs)
 
 -- what a place of p or more goes up by
 abbrev pub above : ℕ → ℕ → ℕ

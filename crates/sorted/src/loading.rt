@@ -8,6 +8,7 @@ ghost use Rattle.record.specs.Test.{Under, names_of};
 ghost use Rattle.sorted.specs.Tables.{places_of};
 ghost use Rattle.sorted.specs.Loading.{sizes_of, Limited};
 
+use crate::appending::append;
 use crate::putting::Sizes;
 use arrayvec::ArrayVec;
 use record::{Record, Rows, bodies_at, body_length, body_start, head_at};
@@ -31,8 +32,7 @@ pub(crate) fn load_bodies<const N: usize>(pool: &mut ArrayVec<u8, N>, b: &[u8], 
     ensures { pool.new.items ≡ bodies (names_of b.now) }
 {
     pool.clear();
-    pool.try_extend_from_slice(part(b, bodies_at(b), bytes))
-        .unwrap();
+    append(pool, part(b, bodies_at(b), bytes));
 }
 
 // How long the bodies of the n names of a record are together.

@@ -8,6 +8,7 @@ ghost use Rattle.record.specs.Test.{Under};
 ghost use Rattle.sorted.specs.Sorted.{renumbered};
 ghost use Rattle.sorted.specs.Tables.{places_of};
 
+use crate::inserting::insert_at;
 use arrayvec::ArrayVec;
 
 // The two places of a pair after a name came in at place p: each goes up by one from there on.
@@ -35,6 +36,6 @@ pub(crate) fn put_number<const N: usize>(a: &mut ArrayVec<u32, N>, v: u32)
     ensures { a.new.items ≡ insert compare_numbers v a.old.items }
 {
     if let Err(p) = a.binary_search(&v) {
-        a.insert(p, v);
+        insert_at(a, p, v);
     }
 }

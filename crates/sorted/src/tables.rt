@@ -7,6 +7,8 @@ ghost use Rattle.sorted.specs.Sorted.{sought};
 ghost use Rattle.sorted.specs.Tables.{table_names, graph_in, numbers_of, fresh, Kept, NameRoom, PairRoom, NamePut, PairPut};
 ghost use Rattle.sorted.specs.Loading.{sizes_of, TableRoom, Good, Loaded};
 
+use crate::appending::append;
+use crate::inserting::insert_at;
 use crate::loading::{load_bodies, load_rows};
 use crate::numbers::{put_number, renumber};
 use crate::putting;
@@ -118,8 +120,8 @@ impl<const NAMES: usize, const PAIRS: usize, const BYTES: usize> Tables<NAMES, P
             Ok(place) => place,
             Err(place) => {
                 let at = self.pool.len();
-                self.refs.insert(place, (at * 65536 + name.len()) as u32);
-                self.pool.try_extend_from_slice(name).unwrap();
+                insert_at(&mut self.refs, place, (at * 65536 + name.len()) as u32);
+                append(&mut self.pool, name);
                 renumber(self.subs.as_mut_slice(), place as u32);
                 renumber(self.trans.as_mut_slice(), place as u32);
                 place

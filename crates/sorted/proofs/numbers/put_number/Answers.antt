@@ -11,4 +11,4 @@ returns-in_default g c =
 pub returns-in-Err : goal.returns-in-Err
 returns-in-Err g c =
     let e = rw c.deref.ensures.0 at c.in-Err.ensures in
-    c.insert.ensures.items ∙ number_new c.args.v c.args.a.now.items c.requires.1 c.in-Err.p e.bound e.position
+    c.insert_at.ensures ∙ number_new c.args.v c.args.a.now.items c.requires.1 c.in-Err.p e.bound e.position

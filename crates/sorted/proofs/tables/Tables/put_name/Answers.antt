@@ -33,12 +33,12 @@ returns-in-Err g c =
     (new_put i.refs.items i.subs.items i.trans.items i.pool.items c.args.name.now k r.short (omega (arith, few, r.count)) (omega (arith, small, r.room)) c.in-Err.place
     (rw (c.refs.ensures, c.pool.ensures, ← c.self.view_is) at c.in-Err.ensures.value)
     _ _ _ _
-    (rw c.len-at.ensures.value at c.insert.ensures.items)
+    (rw c.len-at.ensures.value at c.insert_at.ensures)
     (items-with_items i.subs _ (omega (arith, c.renumber.auto.pairs, ap length c.as_mut_slice.ensures.value))
     ∙ c.renumber.ensures ∙ ap (map (renumbered c.in-Err.place)) c.as_mut_slice.ensures.value)
     (items-with_items i.trans _ (omega (arith, c.renumber-in-Err.auto.pairs, ap length c.as_mut_slice-in-Err.ensures.value))
     ∙ c.renumber-in-Err.ensures ∙ ap (map (renumbered c.in-Err.place)) c.as_mut_slice-in-Err.ensures.value)
-    (rw c.unwrap.ensures at c.try_extend_from_slice.ensures.ok))
+    c.append.ensures)
 
 pub invariant_of-self : goal.invariant_of-self
 invariant_of-self g c = ((returns-in-Err g c).kept, c.self.invariant.1, c.self.invariant.2)
