@@ -68,12 +68,12 @@ with_more (Some x) ns a =
 -- what is in use is what the graph name of all pairs takes
 pub sizes_in_use : (t : Tables) → Good None t → t.sizes ≡ sizes_of (owned None (graph_in t))
 sizes_in_use t good = rw (
-    good.used,
-    length_names t.pool t.sizes.names t.refs good.kept.count,
-    ← good.kept.total,
-    length_shown (table_names t) t.sizes.subgraph t.subs good.kept.subgraph.within,
-    length_shown (table_names t) t.sizes.translation t.trans good.kept.translation.within,
-  ) refl
+  good.used,
+  length_names t.pool t.sizes.names t.refs good.kept.count,
+  ← good.kept.total,
+  length_shown (table_names t) t.sizes.subgraph t.subs good.kept.subgraph.within,
+  length_shown (table_names t) t.sizes.translation t.trans good.kept.translation.within,
+) refl
 
 module _ (t : Tables) (own : Option Bytes) (good : Good None t) where
   abbrev so_far : GraphName

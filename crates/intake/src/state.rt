@@ -14,7 +14,7 @@ use arrayvec::ArrayVec;
 use fields::Content;
 use model::{Fault, Kind};
 use record::{MAX_BODIES_BYTES, MAX_NAME_BYTES, MAX_NAMES, MAX_PAIRS};
-use sorted::{Sizes, Tables};
+use sorted::{Sizes, Tables, append};
 use std::marker::Model;
 
 // Room for the names of a full record, and of a field more.
@@ -95,7 +95,7 @@ impl State {
             return Err(Fault::LongName);
         }
         let mut own = ArrayVec::new();
-        own.try_extend_from_slice(name).unwrap();
+        append(&mut own, name);
         self.own = Some(own);
         self.judge()
     }

@@ -1,11 +1,11 @@
 -- Keys as the tests of std have their bytes: what may come, what may be stored, and capitals lowered.
 use mathlib.Core.Path.{◌≡◌, refl, ap, ap₂, ◌∙◌}
 use mathlib.Core.Bool.{Bool, true, false, cond, ◌&&◌}
-use mathlib.Core.List.{[], ◌∷◌, ◌++◌, map}
+use mathlib.Core.List.{[], ◌∷◌, map}
 use Prim.Native.Nat.{ℕ, zero, suc, ◌+◌, ◌≤◌, ◌<◌}
 use native.Mathlib.Omega.{arith}
-use lib.ListN.{length, take, get_or}
-use lib.Seq.{take_at}
+use lib.ListN.{length, take, get_or, length-map}
+use lib.Seq.{length-take-le}
 use lib.Dec.{leb}
 use borrow.Author.Tests.{leb-true, le-leb, lt-leb}
 use Rattle.std.specs.Bool.{MatchBool}
@@ -14,12 +14,12 @@ use Rattle.std.specs.List.{list_all}
 use Rattle.std.specs.Str.{IsAscii, IsNotAscii}
 use Rattle.std.proofs.lemmas.Bool.Decides.{nat_tests}
 use Rattle.std.proofs.lemmas.Bool.{and_parts}
+use Rattle.std.proofs.lemmas.List.{take_all}
 use Rattle.std.specs.Prelude.{Ok, Err}
 use Rattle.model.specs.declared.fault.Fault.TheVariants.{BadKey}
 use Rattle.model.specs.Bytes.{Bytes, every_byte}
 use Rattle.model.specs.TagList.{max_key, capital, key_byte, stored_byte, lower, fine_key, stored_key}
 use Rattle.model.specs.TagOutcome.{ready_key}
-use Rattle.tag_list.proofs.Lowering.{length_lower}
 
 every_all : (is_of : ℕ → Bool) (k : Bytes) → list_all is_of k ≡ every_byte is_of k
 unfolding every_byte
@@ -90,10 +90,14 @@ module _ (k : Bytes) where
   unfolding ready_key
   key_ready e = rw e
 
-  pub front_ready : (o r : Bytes) → o ≡ map to_ascii_lowercase k → fine_key k ≡ true → Ok (take (length k) (o ++ r)) ≡ ready_key k
-  front_ready o r e f =
-      let l : o ≡ lower k = e ∙ lower_map k in
-      let n : length o ≡ length k = ap length l ∙ length_lower k in
-      rw (key_ready f, take_at o r (length k) n, l)
+-- the key of which the first i bytes are lowered
+module _ (k o : Bytes) (i : ℕ) (lowered : o ≡ map to_ascii_lowercase (take i k)) (f : fine_key k ≡ true) where
+  pub lowered_room : i < length k → length o < max_key
+  lowered_room h =
+      let l : length o ≡ i = ap length lowered ∙ length-map (take i k) to_ascii_lowercase ∙ length-take-le i k (omega arith) in
+      omega (arith, fine_length k f)
 
-pub ruleset ready = (key_refused, fine_length, front_ready)
+  pub lowered_ready : length k ≤ i → Ok o ≡ ready_key k
+  lowered_ready h = rw (key_ready k f, lowered, take_all i k h, lower_map k)
+
+pub ruleset ready = (key_refused, fine_length)

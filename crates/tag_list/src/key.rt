@@ -47,8 +47,9 @@ impl Key {
             return Err(Fault::BadKey);
         }
         let mut bytes = ArrayVec::new();
-        bytes.try_extend_from_slice(key).unwrap();
-        bytes.as_mut_slice().make_ascii_lowercase();
+        for x in key {
+            bytes.push(x.to_ascii_lowercase());
+        }
         Ok(Key { bytes })
     }
 
