@@ -27,7 +27,7 @@ const PAIR_ROOM: usize = MAX_PAIRS + 1;
 const POOL_ROOM: usize = MAX_BODIES_BYTES + 2 * MAX_NAME_BYTES;
 
 // What a reading has so far: the tables with all pairs, and the own name, if there is one, which is copied from the text.
-#[derive(Drop)]
+#[derive(Clone, Drop)]
 pub struct State {
     tables: Tables<NAME_ROOM, PAIR_ROOM, POOL_ROOM>,
     own: Option<ArrayVec<u8, MAX_NAME_BYTES>>,

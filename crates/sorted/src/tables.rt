@@ -20,7 +20,7 @@ use std::marker::Model;
 
 // Tables for so many names, pairs of each kind and bytes of their bodies. A name is one number and so is a pair, so that one order and one
 // insertion serve both.
-#[derive(Drop)]
+#[derive(Clone, Drop)]
 pub struct Tables<const NAMES: usize, const PAIRS: usize, const BYTES: usize> {
     refs: ArrayVec<u32, NAMES>,
     subs: ArrayVec<u32, PAIRS>,
