@@ -19,7 +19,7 @@ unfoldable pub sought : {A : Type 0} → (A → A → Ordering) → A → List A
 sought cmp x [] = Err 0
 sought cmp x (y ∷ ys) = by_order (cmp y x) (one_on (sought cmp x ys)) (Ok 0) (Err 0)
 
--- with those from place i up to place m one place up; at place i stands what stood there
+-- xs with those from place i up to place m one place further up, over what stood at m; at place i stands what stood there
 unfoldable pub raised : List ℕ → ℕ → ℕ → List ℕ
 raised xs m i = take (i + 1) xs ++ (drop i (take m xs) ++ drop (m + 1) xs)
 

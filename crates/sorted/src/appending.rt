@@ -4,11 +4,11 @@ ghost use Rattle.arrayvec.specs.ArrayVec.{array_vec_len};
 
 use arrayvec::ArrayVec;
 
-// So many bytes are copied at a time: as many as are known when this is compiled, so that no function of the C library is called for them.
+// How many bytes are copied at a time. A copy of a length that is not known in advance would need `memmove` of the C library.
 const BLOCK: usize = 16;
 
-// Appends the bytes one by one.
-fn append_each<const N: usize>(bytes: &mut ArrayVec<u8, N>, s: &[u8])
+// Appends a few bytes.
+fn append_few<const N: usize>(bytes: &mut ArrayVec<u8, N>, s: &[u8])
     requires { array_vec_len bytes.old + length s.now ≤ N }
     ensures { bytes.new.items ≡ bytes.old.items ++ s.now }
 {
@@ -26,5 +26,5 @@ pub fn append<const N: usize>(bytes: &mut ArrayVec<u8, N>, s: &[u8])
     for block in blocks {
         bytes.try_extend_from_slice(block).unwrap();
     }
-    append_each(bytes, rest);
+    append_few(bytes, rest);
 }

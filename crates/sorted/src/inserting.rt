@@ -6,10 +6,11 @@ ghost use Rattle.sorted.specs.Sorted.{raised};
 
 use arrayvec::ArrayVec;
 
-// So many numbers are moved at a time: as many as are known when this is compiled, so that no function of the C library is called for them.
-const BLOCK: usize = 16;
+// How many numbers are moved at a time. A move of a length that is not known in advance would need `memmove` of the C library.
+const BLOCK: usize = 32;
 
-// Moves numbers one place up, from the last but one down, in blocks, while a whole block stands from place p on. Gives the place of the gap.
+// Moves whole blocks of the numbers from place p on one place up, over the last one. Gives the place of the gap: those from p up to there are
+// still to be moved.
 fn raise_blocks(numbers: &mut [u32], p: usize) -> usize
     requires { p < length numbers.old }
     ensures gap { (p ≤ result) × (result < length numbers.old) }
@@ -23,7 +24,7 @@ fn raise_blocks(numbers: &mut [u32], p: usize) -> usize
     gap
 }
 
-// Moves the numbers from place p up to the gap one place up, one by one.
+// Moves the numbers from place p up to the gap one place up, into the gap.
 fn raise_each(numbers: &mut [u32], p: usize, gap: usize)
     requires { (p ≤ gap) × (gap < length numbers.old) }
     ensures { numbers.new ≡ raised numbers.old gap p }
@@ -35,8 +36,8 @@ fn raise_each(numbers: &mut [u32], p: usize, gap: usize)
     }
 }
 
-// Puts a number in at place p, those from there on one place up, of which the last goes.
-fn place(numbers: &mut [u32], p: usize, v: u32)
+// Puts a number in at place p; those from there on go one place up, over the last one.
+fn insert_over_last(numbers: &mut [u32], p: usize, v: u32)
     requires { p < length numbers.old }
     ensures { numbers.new ≡ insert (take (length numbers.old - 1) numbers.old) p v }
 {
@@ -45,11 +46,11 @@ fn place(numbers: &mut [u32], p: usize, v: u32)
     numbers[p] = v;
 }
 
-// Puts a number in at place p, those from there on one place up.
+// Puts a number in at place p; those from there on go one place up.
 pub(crate) fn insert_at<const N: usize>(numbers: &mut ArrayVec<u32, N>, p: usize, v: u32)
     requires { (p ≤ array_vec_len numbers.old) × (array_vec_len numbers.old < N) }
     ensures { numbers.new.items ≡ insert numbers.old.items p v }
 {
     numbers.push(v);
-    place(numbers.as_mut_slice(), p, v);
+    insert_over_last(numbers.as_mut_slice(), p, v);
 }

@@ -11,4 +11,4 @@ loop-block-preserved g c =
 pub returns : goal.returns
 returns g c =
     chunks_all 16 (length c.args.s.now / 16) c.loop-block.block-index c.args.bytes.now.items c.args.s.now c.loop-block.invariant c.as_chunks.result.1.now
-    (omega (arith, c.as_chunks.ensures.front_len)) c.as_chunks.ensures.back c.append_each.ensures
+    (omega (arith, c.as_chunks.ensures.front_len)) c.as_chunks.ensures.back c.append_few.ensures

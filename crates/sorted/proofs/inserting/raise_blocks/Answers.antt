@@ -15,5 +15,5 @@ loop-gap-preserved c =
     record {
       from = omega arith;
       within = omega arith;
-      moved = rw c.copy_within.ensures.after (raised_block b (length b - 1) (omega arith) 16 l.gap l.numbers (omega arith) (omega arith) l.invariant.moved);
+      moved = rw c.copy_within.ensures.after (raised_block b (length b - 1) (omega arith) 32 l.gap l.numbers (omega arith) (omega arith) l.invariant.moved);
     }

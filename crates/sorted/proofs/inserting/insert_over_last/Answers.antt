@@ -1,6 +1,6 @@
 -- Those from the place on are moved, and the number comes into the gap.
 use Rattle.sorted.proofs.Raised.{placed}
-use Rattle.sorted.proofs.inserting.place.Goals as goal
+use Rattle.sorted.proofs.inserting.insert_over_last.Goals as goal
 
 pub returns : goal.returns
 returns c =
