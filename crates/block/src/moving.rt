@@ -1,41 +1,16 @@
 // Bytes moved within a block, and cleared. A move begins on the side that it goes to, so that no byte is written over before it is read.
-ghost use Rattle.std.specs.Prelude.{◌≡◌, ◌+◌, ◌*◌, ◌≤◌, length, take, drop, replicate};
+//
+// Bytes are moved by loops, which need nothing from outside: `copy_within`, where their number is known to the caller alone, calls `memmove`.
+ghost use Rattle.std.specs.Prelude.{◌≡◌, ◌+◌, ◌≤◌, length, take, drop, replicate};
 ghost use Rattle.model.specs.Bytes.{put};
-
-// The bytes that are moved at once: a number that is known here, so that no function from outside is called for them.
-const BLOCK: usize = 16;
-
-// Moves n blocks towards the end of b: the last block first.
-fn move_blocks_up(b: &mut [u8], from: usize, to: usize, n: usize)
-    requires { (from ≤ to) × (to + n * 16 ≤ length b.old) }
-    ensures { b.new ≡ put b.old to (take (n * 16) (drop from b.old)) }
-{
-    for i in (0..n).rev() {
-        let at = i * BLOCK;
-        b.copy_within(from + at..from + at + BLOCK, to + at);
-    }
-}
 
 // Moves n bytes towards the end of b: the last byte first.
 fn move_up(b: &mut [u8], from: usize, to: usize, n: usize)
     requires { (from ≤ to) × (to + n ≤ length b.old) }
     ensures { b.new ≡ put b.old to (take n (drop from b.old)) }
 {
-    let blocks = n / BLOCK;
-    for i in (blocks * BLOCK..n).rev() {
+    for i in (0..n).rev() {
         b[to + i] = b[from + i];
-    }
-    move_blocks_up(b, from, to, blocks);
-}
-
-// Moves n blocks towards the start of b: the first block first.
-fn move_blocks_down(b: &mut [u8], from: usize, to: usize, n: usize)
-    requires { (to ≤ from) × (from + n * 16 ≤ length b.old) }
-    ensures { b.new ≡ put b.old to (take (n * 16) (drop from b.old)) }
-{
-    for i in 0..n {
-        let at = i * BLOCK;
-        b.copy_within(from + at..from + at + BLOCK, to + at);
     }
 }
 
@@ -44,9 +19,7 @@ fn move_down(b: &mut [u8], from: usize, to: usize, n: usize)
     requires { (to ≤ from) × (from + n ≤ length b.old) }
     ensures { b.new ≡ put b.old to (take n (drop from b.old)) }
 {
-    let blocks = n / BLOCK;
-    move_blocks_down(b, from, to, blocks);
-    for i in blocks * BLOCK..n {
+    for i in 0..n {
         b[to + i] = b[from + i];
     }
 }
