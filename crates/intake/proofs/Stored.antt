@@ -38,10 +38,10 @@ module _ {t : Tables} {own : Option Bytes} {g : GraphName} (good : Good None t) 
             sym (any_insert x (names (owned None (graph_in t)))) ∙ ap any_long (sym (names_owned (Some x) (graph_in t))) ∙ k in
             ltb-false max_name_bytes (length x) (or_parts _ _ n).0
 
-    -- with the own name they are the tables u, and it stands at p
+    -- with the own name, which stands at p, they are the tables u; n is the number of that place
     module _ {u : Tables} {p : ℕ} (put : NamePut t x u p) where
       pub graph_own : meaning (read_out u (suc p)) ≡ g
       graph_own = meaning_own t u x p put ∙ sym graph_named
 
-      pub stored_own : Storable u (suc p)
-      stored_own = judged_storable u (suc p) (complete_own t u x p put good) (ap judge graph_own ∙ sizes)
+      pub stored_own : (n : ℕ) → n ≡ suc p → Storable u n
+      stored_own n e = rw e (judged_storable u (suc p) (complete_own t u x p put good) (ap judge graph_own ∙ sizes))

@@ -2,6 +2,8 @@
 // written as a record.
 #![tactic(auto)]
 
+mod reading;
 mod state;
 
+pub use reading::Reading;
 pub use state::State;

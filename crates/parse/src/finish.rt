@@ -7,12 +7,12 @@ ghost use Rattle.parse.specs.Endings.{reading_of};
 ghost use Rattle.parse.specs.Refusals.{refusal_in};
 
 use crate::refusal::Refusal;
-use intake::State;
+use intake::Reading;
 
 // Ends a reading: writes the record, or the empty one.
 pub(crate) fn finish(
     ended: Result<(), Refusal>,
-    state: &mut State,
+    state: &mut Reading,
     buffer: &mut [u8],
 ) -> Result<(), Refusal>
     requires sizes { IfOk ended (λ _. judge state.old ≡ 0) }

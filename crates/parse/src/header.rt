@@ -8,7 +8,7 @@ use crate::finish::finish;
 use crate::reading::read_text;
 use crate::refusal::Refusal;
 use fields::Source;
-use intake::State;
+use intake::Reading;
 use model::Fault;
 use record::RECORD_LENGTH;
 
@@ -21,7 +21,7 @@ pub fn from_header_lines(text: &[u8], buffer: &mut [u8]) -> Result<(), Refusal>
     if buffer.len() != RECORD_LENGTH {
         return Err(Refusal::from(Fault::WrongBuffer));
     }
-    let mut state = State::new();
+    let mut state = Reading::new();
     let ended = read_text(Source::Header, text, &mut state);
     finish(ended, &mut state, buffer)
 }

@@ -6,10 +6,10 @@ ghost use Rattle.parse.specs.Endings.{reading_of};
 
 use crate::refusal::Refusal;
 use fields::{Fields, Source, Tally};
-use intake::State;
+use intake::Reading;
 
 // Reads all of a text, up to the first fault.
-pub(crate) fn read_text(source: Source, text: &[u8], state: &mut State) -> Result<(), Refusal>
+pub(crate) fn read_text(source: Source, text: &[u8], state: &mut Reading) -> Result<(), Refusal>
     requires { judge state.old ≡ 0 }
     ensures reading { reading_of result state.new ≡ rest_of source text.now 0 (first_stop source text.now) 0 state.old }
     ensures sizes { IfOk result (λ _. judge state.new ≡ 0) }

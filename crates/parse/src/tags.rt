@@ -11,13 +11,13 @@ use crate::finish::finish;
 use crate::reading::read_text;
 use crate::refusal::Refusal;
 use fields::{Content, Source};
-use intake::State;
+use intake::Reading;
 use model::{Fault, Kind};
 use record::RECORD_LENGTH;
 
 // The name's tag, if it is there.
 #[tactic(auto, unfolding(model::specs::Reading::name_value))]
-fn read_name(name: Option<&[u8]>, state: &mut State) -> Result<(), Refusal>
+fn read_name(name: Option<&[u8]>, state: &mut Reading) -> Result<(), Refusal>
     requires { judge state.old ≡ 0 }
     ensures reading { reading_of result state.new ≡ name_value (option_copied name.entry) state.old }
     ensures sizes { IfOk result (λ _. judge state.new ≡ 0) }
@@ -30,7 +30,7 @@ fn read_name(name: Option<&[u8]>, state: &mut State) -> Result<(), Refusal>
 
 // The tag of a kind of relation, if it is there.
 #[tactic(auto, using(fields::proofs::Rest::tag_start), unfolding(model::specs::Reading::tag_value))]
-fn read_tag(kind: Kind, value: Option<&[u8]>, state: &mut State) -> Result<(), Refusal>
+fn read_tag(kind: Kind, value: Option<&[u8]>, state: &mut Reading) -> Result<(), Refusal>
     requires { judge state.old ≡ 0 }
     ensures reading { reading_of result state.new ≡ tag_value (tag_number kind) (add_to kind) (option_copied value.entry) state.old }
     ensures sizes { IfOk result (λ _. judge state.new ≡ 0) }
@@ -47,7 +47,7 @@ fn read_tags(
     name: Option<&[u8]>,
     subgraph: Option<&[u8]>,
     translation: Option<&[u8]>,
-    state: &mut State,
+    state: &mut Reading,
 ) -> Result<(), Refusal>
     requires { state.old ≡ empty }
     ensures reading { reading_of result state.new ≡ from_tags (option_copied name.entry) (option_copied subgraph.entry) (option_copied translation.entry) }
@@ -72,7 +72,7 @@ pub fn from_tags(
     if buffer.len() != RECORD_LENGTH {
         return Err(Refusal::from(Fault::WrongBuffer));
     }
-    let mut state = State::new();
+    let mut state = Reading::new();
     let ended = read_tags(name, subgraph, translation, &mut state);
     finish(ended, &mut state, buffer)
 }

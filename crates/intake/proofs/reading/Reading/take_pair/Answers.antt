@@ -2,7 +2,7 @@
 use Rattle.std.proofs.Common.{arith, ap, ◌∙◌}
 use Rattle.model.specs.Record.{judge}
 use Rattle.intake.proofs.Progress.{pair_room}
-use Rattle.intake.proofs.state.State.take_pair.Goals as goal
+use Rattle.intake.proofs.reading.Reading.take_pair.Goals as goal
 
 pub put_pair-requires : goal.put_pair-requires
 put_pair-requires c = (

@@ -2,7 +2,7 @@
 use Rattle.std.proofs.Common.{ap, sym, ◌∙◌}
 use Rattle.model.specs.Record.{GraphName}
 use Rattle.tables.proofs.Judge.{judge_tables}
-use Rattle.intake.proofs.state.State.judge.Goals as goal
+use Rattle.intake.proofs.reading.Reading.judge.Goals as goal
 
 pub returns : goal.returns
 returns c =
