@@ -1,7 +1,6 @@
 -- The own name is found among the names.
-use Rattle.std.proofs.Common.{◌≡◌, ℕ, ◌<◌, ap, rules, length}
-use Rattle.std.specs.Prelude.{Ok, Some}
-use Rattle.model.specs.Bytes.{Bytes}
+use Rattle.std.proofs.Common.{◌≡◌, ℕ, ◌<◌, arith, rules, length}
+use Rattle.std.specs.Prelude.{Ok}
 use Rattle.record.specs.Coded.{name_in}
 use Rattle.sorted.specs.Tables.{table_names}
 use Rattle.tables.proofs.Judge.{among}
@@ -18,5 +17,4 @@ unwrap-requires g c = rw (there g c).1 (search rules)
 pub returns-clause-place : goal.returns-clause-place
 returns-clause-place g c =
     let w = there g (goal.at.returns-clause-place g c).After-seek in
-    let e : w.0 ≡ c.unwrap.result = cc in
-    rw (c.in_ok-own.was) (ap (λ (n : Bytes). Some n) (rw e at w.3))
+    grind (arith, w.1, w.3, c.in_ok-own.was)
