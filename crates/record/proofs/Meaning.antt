@@ -2,7 +2,7 @@
 use mathlib.Core.Path.{◌≡◌, refl, sym, ap, ◌∙◌}
 use mathlib.Core.Bool.{true, false≢true}
 use Rattle.std.specs.Prelude.{Option, Some, None, slice_get}
-use Prim.Native.Nat.{ℕ, ◌+◌, ◌*◌, ◌≤◌, ◌<◌}
+use Prim.Native.Nat.{ℕ, suc, ◌+◌, ◌*◌, ◌≤◌, ◌<◌}
 use native.Mathlib.Omega.{arith}
 use lib.ListN.{length}
 use Rattle.model.specs.declared.Kind.{Kind}
@@ -72,6 +72,12 @@ module _ (b : Bytes) (r : HoldsRecord b) where
 
   pub own_part_there : (i : ℕ) (p : Part) → place_numbered (own_number b) ≡ Some i → IsPart b i p → Some p ≡ mapped (part_of (shown b)) (shown b).name
   own_part_there i p e q = ap (λ (w : Part). Some w) (part_same b i p q) ∙ sym (own_in_lem b (shown b) r.decoded i (number_placed (own_number b) i e))
+
+  -- the same by its number, which is one more than the place
+  pub own_part_numbered : (i : ℕ) (p : Part) → IsPart b i p → own_number b ≡ i + 1 → Some p ≡ mapped (part_of (shown b)) (shown b).name
+  own_part_numbered i p q e =
+      let n : own_number b ≡ suc i = omega (arith, e) in
+      own_part_there i p (rw n) q
 
   pub part_absent : (i : ℕ) → name_count b ≤ i → None ≡ mapped (part_of (shown b)) (slice_get (names (shown b)) i)
   part_absent i h = sym (name_out b (shown b) r.decoded i h)
