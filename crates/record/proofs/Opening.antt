@@ -2,7 +2,7 @@
 -- nothing wrong they are read. A further kind of buffer joins by its law of what it reads.
 use mathlib.Core.Path.{◌≡◌, refl, sym, ap, ap₂, ◌∙◌}
 use mathlib.Core.Logic.{◌≢◌}
-use mathlib.Core.Bool.{Bool, true, false, cond, ◌&&◌}
+use mathlib.Core.Bool.{Bool, true, false, cond, ◌&&◌, false≢true}
 use Rattle.std.specs.Prelude.{Option, Some, None, Ok, Err}
 use Rattle.std.proofs.lemmas.Bool.{and_parts}
 use lib.ListN.{length}
@@ -112,6 +112,17 @@ module _ (b : Bytes) where
       let d = is_record_lem b r.0 (read_decodes b r.0 r.1) in
       (d.1, reads_opened (record_in b) r.0 r.1 ∙ ap Ok d.0)
 
+  -- with nothing wrong it decodes, and what decodes is read as what it shows
+  pub unrefused_decodes : check_of b ≡ Ok tt → is_some (decode b) ≡ true
+  unrefused_decodes z = shown_decoded b (record_opened z).0
+
+  pub decoded_opened : is_some (decode b) ≡ true → opened (record_in b) ≡ Ok (shown b)
+  decoded_opened v = go (decode b) refl v
+    where
+      go : (o : Option GraphName) → decode b ≡ o → is_some o ≡ true → opened (record_in b) ≡ Ok (shown b)
+      go None e t = absurd (false≢true t)
+      go (Some g) e t = reads_opened (record_in b) g (decoded_reads b g e) ∙ ap Ok (is_record_lem b g e).0
+
   -- a buffer that is only written
   pub written_opened : length b ≡ record_length → opened (overwritten b) ≡ Ok tt
   unfolding opened
@@ -120,6 +131,8 @@ module _ (b : Bytes) where
   pub written_refused : length b ≢ record_length → opened (overwritten b) ≡ Err WrongBuffer
   unfolding opened
   written_refused n = rw (ne_eqb (length b) record_length n)
+
+pub ruleset opens = (unrefused_decodes, decoded_opened)
 
 -- ------------------------------------------------------------------ two records
 

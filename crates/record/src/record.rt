@@ -36,6 +36,7 @@ impl<'a> Record<'a> {
     ghost use Rattle.record.specs.Pairs.{pairs_left};
 
     // The record that a buffer is: refused for its length, or else for its contents.
+    #[tactic(auto, using(crate::proofs::Opening::opens))]
     pub fn open(b: &'a [u8]) -> Result<Record<'a>, Fault>
         ensures { result ≡ opened (record_in b.now) }
     {
