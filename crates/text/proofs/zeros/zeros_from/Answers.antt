@@ -10,7 +10,7 @@ pub returns-then-all : goal.returns-then-all
 returns-then-all c =
     let e = all_from_yields_List all_zero _ _ c.all.result c.all.ensures.ran (YieldsList-from_slice c.as_chunks.result.0.now cc) (λ x b q k. search (rules, tests)) in
     let w = zeros_of_blocks _ _ c.args.at c.args.b.now _ _ _ e c.as_chunks.ensures.front c.as_chunks.ensures.back in
-    c.is_zero.ensures ∙ rw c.if-all.true at w
+    grind (rules, tests, w)
 
 pub returns-else-all : goal.returns-else-all
 returns-else-all c =
