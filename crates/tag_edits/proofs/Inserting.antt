@@ -18,8 +18,8 @@ use Rattle.model.specs.TagList.{Tag, look_up, set_tag, max_tags, max_key, max_va
 use Rattle.model.specs.TagOutcome.{ready_key, judged_tags}
 use Rattle.model.specs.TagStatements.{part_in}
 use Rattle.tag_list.specs.Spot.{spot_in}
-use Rattle.tag_list.proofs.Asking.{found_value, found_held}
-use Rattle.tag_list.proofs.Lowering.{lower_stored}
+use Rattle.tag_list.proofs.Asking.{spot_within, found_value, found_held}
+use Rattle.tag_list.proofs.Lowering.{length_lower, lower_stored}
 use Rattle.tag_list.proofs.Parted.{part_behind, spot_value}
 use Rattle.tag_list.proofs.Ready.{list_is, list_shown}
 use Rattle.tag_list.proofs.Standing.{stored_short}
@@ -63,6 +63,13 @@ module _ (key k : Bytes) (e : ready_key key ≡ Ok k) where
 
   pub ready_short : length k ≤ max_key
   ready_short = stored_short k ready_stored
+
+  same_length : length k ≡ length key
+  same_length = ap length ready_lower.1 ∙ length_lower key
+
+-- a key that is ready is as long as before; the first half is what the prover finds the law by, here and in `value_behind`
+pub ready_length : (key : Bytes) → (ready_key key ≡ ready_key key) × ((k : Bytes) → ready_key key ≡ Ok k → length k ≡ length key)
+ready_length key = (refl, same_length key)
 
 module _ (b : Bytes) (d : is_some (decode_tags b) ≡ true) (k : Bytes) where
   -- ------------------------------------------------------------------ insertion
@@ -115,6 +122,13 @@ module _ (b : Bytes) (d : is_some (decode_tags b) ≡ true) (k : Bytes) where
         go None f = cc
         go (Some v) f = let h : p ≡ part_behind k (spot_in k b).start v = cc in rw h
 
+    behind_key : (spot_in k b).start + length k ≡ p.start
+    behind_key = go (look_up k (shown_tags b)) (rw e at (found_value b d k))
+      where
+        go : (o : Option Bytes) → Some p ≡ mapped (part_behind k (spot_in k b).start) o → (spot_in k b).start + length k ≡ p.start
+        go None f = cc
+        go (Some v) f = let h : p ≡ part_behind k (spot_in k b).start v = cc in rw h
+
     -- whether there is room for it
     value_room : (room : ℕ) → fits (look_up k (shown_tags b)) room ≡ leb p.size room
     value_room room = go (look_up k (shown_tags b)) look_size
@@ -129,6 +143,11 @@ module _ (b : Bytes) (d : is_some (decode_tags b) ≡ true) (k : Bytes) where
     pub value_overflows : (room : ℕ) → room < p.size → fits (look_up k (shown_tags b)) room ≡ false
     value_overflows room h = value_room room ∙ lt-leb p.size room h
 
+  -- a value stands right behind its key
+  pub value_behind : ((spot_in k b).value ≡ (spot_in k b).value) × ((p : Part) → (spot_in k b).value ≡ Some p → (spot_in k b).start + length k ≡ p.start)
+  value_behind = (refl, behind_key)
+
 pub ruleset inserting = (list_is, list_shown, ready_stored, value_long, value_many, value_done, set_full, set_new, set_held)
 
-pub ruleset removing = (list_is, list_shown, ready_short, look_absent, look_held, look_size, value_fits, value_overflows, remove_none)
+pub ruleset removing =
+    (list_is, list_shown, ready_short, ready_length, spot_within, look_absent, look_held, look_size, value_behind, value_fits, value_overflows, remove_none)
