@@ -102,6 +102,11 @@ module _ (b buffer : Bytes) where
       go (Err d) h = cc
       go (Ok g) h = absurd (short g (short_tags (tags_of g)) h)
 
+  -- the same of every refusal; the first half is what the prover finds the law by
+  pub through_failed : (set_graph_name_in b buffer ≡ set_graph_name_in b buffer)
+      × ((e : Fault) → tag_sizes (written buffer) ≡ Err e → e ≢ OutputShort → set_graph_name_in b buffer ≡ Err e)
+  through_failed = (refl, through_refused)
+
   pub through_long : tag_sizes (written buffer) ≡ Err OutputShort → set_graph_name_in b buffer ≡ and_then (settled (tag_list b)) λ _. Err LongValue
   through_long h = set_by ∙ go (opened (record_in buffer)) refl (rw written_by at h)
     where
@@ -152,4 +157,4 @@ module _ (b buffer : Bytes) where
         let r = and_parts (fits v.subgraph max_value) (fits v.translation max_value) p.1 in
         rw w (p.0, r.0, r.1)
 
-pub ruleset through = (list_opened, name_written, subgraph_written, translation_written, through_refused, through_long, through_done, values_fit)
+pub ruleset through = (list_opened, name_written, subgraph_written, translation_written, through_failed, through_long, through_done, values_fit)

@@ -1,11 +1,10 @@
 -- The record first, then the list, then the values; those that were written are put in.
-use Rattle.std.proofs.Common.{◌≡◌, sym, ap, ◌∙◌, false, rules}
+use Rattle.std.proofs.Common.{◌≡◌, sym, ap, ◌∙◌, rules}
 use Rattle.std.specs.Prelude.{Ok, Err}
 use Rattle.std.specs.Option.{option_copied}
-use Rattle.model.specs.declared.fault.Fault.TheVariants.{OutputShort}
 use Rattle.model.specs.Opening.{settled}
 use Rattle.model.specs.TagOutcome.{tag_list, list_with}
-use Rattle.graph_tags.proofs.Through.{written, values, name_written, subgraph_written, translation_written, through_refused, through_done, through_values}
+use Rattle.graph_tags.proofs.Through.{written, values, name_written, subgraph_written, translation_written, through_done, through_values}
 use Rattle.graph_tags.proofs.three.set_through.Goals as goal
 
 pub returns-in_err-check_list-in-Ok-clause-value : goal.returns-in_err-check_list-in-Ok-clause-value
@@ -13,12 +12,6 @@ returns-in_err-check_list-in-Ok-clause-value c =
     let e = rw (c.requires.0, c.requires.1, c.requires.2) at c.in-Ok.ensures in
     let given : settled (tag_list c.args.list.now) ≡ Err c.in_err-check_list-in-Ok.field-0.0 = sym c.check_list.ensures ∙ c.in_err-check_list-in-Ok.was in
     rw (through_done c.args.list.now c.args.buffer.now c.in-Ok.sizes (sym e.sizes), given) (search rules)
-
-pub returns-then-ne-clause-value : goal.returns-then-ne-clause-value
-returns-then-ne-clause-value c =
-    let e = rw (c.requires.0, c.requires.1, c.requires.2) at c.in-Err.ensures in
-    let other : c.in-Err.fault ≡ OutputShort → ⊥ = λ s. let z : c.ne.result ≡ false = rw s at c.ne.ensures in cc (c.if-ne.true) in
-    rw (through_refused c.args.list.now c.args.buffer.now c.in-Err.fault (sym e.sizes) other)
 
 pub returns-in_ok-check_list-in-Ok : goal.returns-in_ok-check_list-in-Ok
 returns-in_ok-check_list-in-Ok c =
