@@ -1,6 +1,7 @@
 -- The name is there, or its body is appended, its number goes to its place, and the pairs are renumbered.
 use Rattle.std.proofs.Common.{◌∙◌, ap, arith, length, map}
 use Rattle.std.proofs.Math.Seq.{take-length}
+use Rattle.std.proofs.lemmas.Grind.{common_steps}
 use Rattle.arrayvec.proofs.ArrayVecLemmas.{items-with_items}
 use Rattle.record.proofs.Words.{under_weaken}
 use Rattle.sorted.specs.Sorted.{renumbered}
@@ -38,7 +39,7 @@ returns-in-Err g c =
     ∙ c.renumber.ensures ∙ ap (map (renumbered c.in-Err.place)) c.as_mut_slice.ensures.value)
     (items-with_items i.trans _ (omega (arith, c.renumber-in-Err.auto.pairs, ap length c.as_mut_slice-in-Err.ensures.value))
     ∙ c.renumber-in-Err.ensures ∙ ap (map (renumbered c.in-Err.place)) c.as_mut_slice-in-Err.ensures.value)
-    c.append.ensures)
+    (grind (arith, common_steps, c.append.ensures)))
 
 pub invariant_of-self : goal.invariant_of-self
 invariant_of-self g c = ((returns-in-Err g c).kept, c.self.invariant.1, c.self.invariant.2)
