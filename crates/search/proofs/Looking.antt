@@ -28,26 +28,27 @@ abbrev pub searched : ℕ → ℕ → Option ℕ → Searched
 searched t f r = record { taken = t; found = f; target = r }
 
 module _ (R : Moves) (from target : ℕ) where
-  pub looking_start : (q : List ℕ) (size : ℕ) → length q ≡ size → size ≤ max_nodes → from < size
-      → Looking R size from target (set q 0 from) (set (replicate size None) from (Some 0)) 1 0
-  looking_start q size long few small =
+  -- what is put first is the node to search from
+  pub looking_start : (q : List ℕ) (size : ℕ) → length q ≡ size → size ≤ max_nodes → from < size → (first : ℕ) → first ≡ from
+      → Looking R size from target (set q 0 first) (set (replicate size None) from (Some 0)) 1 0
+  looking_start q size long few small first first_from =
       let places : List (Option ℕ) = replicate size None in
       let all : length places ≡ size = length-replicate size None in
       let inside : from < length places = omega arith in
       let clear : (v : ℕ) → v < length places → get_or places v None ≡ None = λ v l. get_or-replicate size v None None (omega arith) in
       let some : 0 < length q = omega arith in
-      let first : get_or (set q 0 from) 0 0 ≡ from = get_or-set_same q 0 from 0 some in
+      let first_is : get_or (set q 0 first) 0 0 ≡ from = get_or-set_same q 0 first 0 some ∙ first_from in
       let same : length (set places from (Some 0)) ≡ size = length-set places from (Some 0) ∙ all in
       record {
         state = record {
-          room = record { queue = rw (length-set q 0 from) (omega arith); small = omega arith };
+          room = record { queue = rw (length-set q 0 first) (omega arith); small = omega arith };
           found = omega (arith, missing_set places from 0 inside (clear from inside), missing_all size);
-          seats = places_start q places from some inside (omega arith) clear;
-          tree = tree_start R (set q 0 from) (rw first (omega arith));
+          seats = rw first_from (places_start q places from some inside (omega arith) clear);
+          tree = tree_start R (set q 0 first) (rw first_is (omega arith));
         };
         passed = λ j l e. omega arith;
         sofar = omega arith;
-        first_is = first;
+        first_is = first_is;
         size_is = same;
       }
 

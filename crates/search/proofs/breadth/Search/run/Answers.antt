@@ -10,7 +10,8 @@ pub loop-taken-init : goal.loop-taken-init
 loop-taken-init c =
     let a = c.args in
     let clear : c.fill.new.self ≡ replicate (length a.self.now.places.now) None = c.fill.ensures.after (λ y h. search rules) in
-    rw (clear, c.start.ensures) (looking_start (leads a.graph.steps.now) a.from a.target a.self.now.queue.now _ c.requires.room.queue c.requires.room.small c.requires.start)
+    let first : c.start.result ≡ a.from = grind (arith, c.requires.room.small, c.requires.start) in
+    rw clear (looking_start (leads a.graph.steps.now) a.from a.target a.self.now.queue.now _ c.requires.room.queue c.requires.room.small c.requires.start _ first)
 
 pub returns-then-to-target : goal.returns-then-to-target
 returns-then-to-target c =
