@@ -9,10 +9,8 @@ use native.Mathlib.Omega.{arith}
 use lib.ListN.{length, get_or, set, take, drop, length-take, length-drop, get_or-append}
 use lib.Seq.{get_or-set_same, get_or-set_other, get_or-take, get_or-drop, length-take-le}
 use Rattle.std.proofs.lemmas.List.{get_or-append-add}
-use mir.Val.{bool_byte}
-use mathlib.Core.Bool.{Bool}
 use Rattle.std.specs.declared.cmp.Ordering.TheVariants.{Less, Equal, Greater}
-use Rattle.std.specs.Ordering.{nat_cmp, ord_min, is_le}
+use Rattle.std.specs.Ordering.{nat_cmp, ord_min}
 use Rattle.std.specs.Cmp.{nat_cmp_is}
 use Rattle.search.specs.Table.{Rises, Holds, Merged}
 use Rattle.search.proofs.Tree.{below}
@@ -127,32 +125,24 @@ module _ (a b out : List ℕ) (i j n : ℕ) (m : Merging a b out i j n) (rises_a
 
 -- the lesser of the numbers at hand goes next, and either table passes it where it has it
 module _ (a b out : List ℕ) (i j n : ℕ) (m : Merging a b out i j n) (rises_a : Rises a (length a)) (rises_b : Rises b (length b)) (room : n < length out) (more_a : i < length a) (more_b : j < length b)
-    (x y v : ℕ) (x_is : x ≡ get_or a i 0) (y_is : y ≡ get_or b j 0) (v_is : v ≡ ord_min nat_cmp x y) (p q : Bool) (p_is : p ≡ is_le (nat_cmp x y)) (q_is : q ≡ is_le (nat_cmp y x)) where
-  pub take_next : Merging a b (set out n v) (i + bool_byte p) (j + bool_byte q) (n + 1)
-  take_next = go (dec_lt x y) (dec_lt y x)
+    (x y v i' j' : ℕ) (x_is : x ≡ get_or a i 0) (y_is : y ≡ get_or b j 0) where
+  pub take_next : v ≡ ord_min nat_cmp x y → (x ≤ y → i' ≡ i + 1) → (y < x → i' ≡ i) → (y ≤ x → j' ≡ j + 1) → (x < y → j' ≡ j)
+      → Merging a b (set out n v) i' j' (n + 1)
+  take_next v_is i_goes i_stays j_goes j_stays = go (dec_lt x y) (dec_lt y x)
     where
-      i_stays : i + 0 ≡ i
-      i_stays = omega arith
-
-      j_stays : j + 0 ≡ j
-      j_stays = omega arith
-
-      go : Dec (x < y) → Dec (y < x) → Merging a b (set out n v) (i + bool_byte p) (j + bool_byte q) (n + 1)
+      go : Dec (x < y) → Dec (y < x) → Merging a b (set out n v) i' j' (n + 1)
       go (yes l) d =
-          let f : nat_cmp x y ≡ Less = sym (nat_cmp_is x y Less l) in
           let g : nat_cmp y x ≡ Greater = sym (nat_cmp_is y x Greater l) in
-          rw (v_is, p_is, q_is, f, g, j_stays, x_is) (take_first a b out i j n m rises_a rises_b room more_a more_b (rw (← x_is, ← y_is) l))
+          rw (v_is, g, i_goes (omega arith), j_stays l, x_is) (take_first a b out i j n m rises_a rises_b room more_a more_b (rw (← x_is, ← y_is) l))
       go (no c) (yes l) =
-          let f : nat_cmp x y ≡ Greater = sym (nat_cmp_is x y Greater l) in
           let g : nat_cmp y x ≡ Less = sym (nat_cmp_is y x Less l) in
-          rw (v_is, p_is, q_is, f, g, i_stays, y_is)
+          rw (v_is, g, i_stays l, j_goes (omega arith), y_is)
           (merging_turned b a (set out n (get_or b j 0)) (j + 1) i (n + 1)
           (take_first b a out j i n (merging_turned a b out i j n m) rises_b rises_a room more_b more_a (rw (← x_is, ← y_is) l)))
       go (no c) (no d) =
           let e : x ≡ y = omega arith in
-          let f : nat_cmp x y ≡ Equal = sym (nat_cmp_is x y Equal e) in
           let g : nat_cmp y x ≡ Equal = sym (nat_cmp_is y x Equal (sym e)) in
-          rw (v_is, p_is, q_is, f, g, x_is) (take_both a b out i j n m rises_a rises_b room more_a more_b (sym x_is ∙ e ∙ y_is))
+          rw (v_is, g, i_goes (omega arith), j_goes (omega arith), x_is) (take_both a b out i j n m rises_a rises_b room more_a more_b (sym x_is ∙ e ∙ y_is))
 
 -- ------------------------------------------------------------------ the rest of one
 

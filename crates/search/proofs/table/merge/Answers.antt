@@ -9,9 +9,8 @@ pub loop-i-preserved : goal.loop-i-preserved
 loop-i-preserved c =
     let x = get_or_read _ _ _ c.loop-i-test.true c.index-a-i.is 0 in
     let y = get_or_read _ _ _ c.if-j-b.true c.index-b-j.is 0 in
-    rw (c.from-i.ensures, c.from-j.ensures)
-    (take_next _ _ _ _ _ _ c.loop-i.invariant c.requires.first_rises c.requires.second_rises (omega arith) c.loop-i-test.true c.if-j-b.true
-    _ _ _ x y c.min.ensures _ _ c.le.ensures c.le-in-loop-i.ensures)
+    take_next _ _ _ _ _ _ c.loop-i.invariant c.requires.first_rises c.requires.second_rises (omega arith) c.loop-i-test.true c.if-j-b.true
+    _ _ _ _ _ x y c.min.ensures (λ h. grind arith) (λ h. grind arith) (λ h. grind arith) (λ h. grind arith)
 
 pub returns : goal.returns
 returns c =
