@@ -90,7 +90,8 @@ module _ (name : ℕ → Bytes) (q : List ℕ) (place : ℕ) (back : Back q plac
           left = omega (arith, a.left, ap length is, bodies_step name q place back j z a.low);
         }
 
-    pub adding_end : j ≡ 0 → total + length last ≡ bodies_to name q place
-    adding_end z =
+    -- with the first name counted, they are all of them
+    pub adding_end : j ≡ 0 → (all : ℕ) → all ≡ total + length last → all ≡ bodies_to name q place
+    adding_end z all all_is =
         let first : last ≡ start_name name q = is ∙ ap (λ (i : ℕ). name (node_at q i)) z in
-        omega (arith, a.left, ap length first, ap (bodies_to name q) z, bodies_first name q)
+        omega (arith, all_is, a.left, ap length first, ap (bodies_to name q) z, bodies_first name q)

@@ -22,6 +22,6 @@ returns c =
     let i = c.loop-path.invariant in
     let last : c.name-2.result.now ≡ named c.args.self.names (node_at c.args.self.queue.now c.loop-path.path.place) =
     rw (i.same_names, i.same_queue) at c.name-2.ensures.0 in (
-      adding_end _ _ _ c.requires.back _ _ i.added _ last (omega arith),
+      adding_end _ _ _ c.requires.back _ _ i.added _ last (omega arith) _ (grind arith),
       omega (arith, i.added.bound, c.requires.small, c.name-2.ensures.1),
     )
