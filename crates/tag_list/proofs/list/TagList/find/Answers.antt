@@ -48,7 +48,7 @@ loop-place-preserved c =
 pub returns-clause-found : goal.returns-clause-found
 returns-clause-found c =
     let view = c.self.view_is in
-    rw (← view) (ahead_none c.loop-place.invariant.ahead c.in-None.ensures.steps.0.0 (rw (← view) at c.count.ensures.count) (rw (← view) at c.contents_end.ensures))
+    rw (← view) (ahead_none c.loop-place.invariant.ahead c.in-None.ensures.steps.0.0 (omega (arith, rw (← view) at c.count.ensures.count)) (rw (← view) at c.contents_end.ensures))
 
 pub returns-clause-held : goal.returns-clause-held
 returns-clause-held c =
