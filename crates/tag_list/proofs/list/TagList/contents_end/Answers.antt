@@ -10,7 +10,7 @@ pub end_of-end-requires : goal.end_of-end-requires
 end_of-end-requires c = omega (arith, left_within c.loop-tag.invariant c.in-Some.ensures.steps, c.tags-tag-items.ensures.within)
 
 pub loop-tag-preserved : goal.loop-tag-preserved
-loop-tag-preserved c = left_more c.loop-tag.invariant c.in-Some.ensures.steps c.end_of-end.ensures
+loop-tag-preserved c = left_more c.loop-tag.invariant c.in-Some.ensures.steps (grind arith)
 
 pub returns : goal.returns
 returns c = left_none c.loop-tag.invariant c.in-None.ensures.steps.0
