@@ -16,14 +16,14 @@ use borrow.Author.Tests.{ltb-true, ltb-false}
 use Rattle.model.specs.Bytes.{Bytes, every_byte}
 use Rattle.model.specs.Opening.{is_some}
 use Rattle.model.specs.Written.{fits}
-use Rattle.model.specs.TagList.{Tag, look_up, max_tags, max_value, stored_key, encode_tags, shown_tags, decode_tags}
+use Rattle.model.specs.TagList.{Tag, look_up, max_tags, max_key, max_value, stored_key, encode_tags, shown_tags, decode_tags}
 use Rattle.model.specs.TagOutcome.{judged_tags}
 use Rattle.model.specs.TagStatements.{ValidTags}
 use Rattle.tag_list.proofs.Walk.{holds}
 use Rattle.tag_edits.proofs.Outcome.{judged_gives}
 use Rattle.tag_edits.proofs.Inserting.{judged_many}
 use Rattle.graph_tags.specs.declared.change.Change.{Change}
-use Rattle.graph_tags.specs.Change.{IsFit, value_of, remove_absent, set_present, cleared, filled, added, gone, pair_of, name_key, subgraph_key, translation_key, three_pairs, three_changed}
+use Rattle.graph_tags.specs.Change.{HasKey, IsFit, value_of, remove_absent, set_present, cleared, filled, added, gone, pair_of, name_key, subgraph_key, translation_key, three_pairs, three_changed}
 use Rattle.graph_tags.proofs.OneChange.{added_by, gone_by, absent_valid}
 use Rattle.graph_tags.proofs.ThreeTags.{name_not_subgraph, name_not_translation, subgraph_not_translation, apart_same, length_changed}
 use Rattle.graph_tags.proofs.Listed.{listed_is, listed_shown}
@@ -87,15 +87,26 @@ cleared_valid [] ts v = v
 cleared_valid (p ∷ ps) ts v = cleared_valid ps (remove_absent p.0 p.1 ts) (absent_valid p.0 p.1 ts v)
 
 module _ (cs : List Change) (n s t : Option Bytes) (e : map pair_of cs ≡ three_pairs n s t) where
-  -- a short key, and what may be stored
-  pub three_fit : fits n max_value ≡ true → fits s max_value ≡ true → fits t max_value ≡ true → All IsFit cs
-  three_fit f g h k d l =
-      let P : Bytes × Option Bytes → Type 0 = λ p. (stored_key p.0 ≡ true) × (fits p.1 max_value ≡ true) in
+  -- what holds of each of the three
+  three_all : (P : Bytes × Option Bytes → Type 0) → P (name_key, n) → P (subgraph_key, s) → P (translation_key, t) → All (λ c. P (pair_of c)) cs
+  three_all P f g h k d l =
       let all : All P (three_pairs n s t) =
-      All-cons P (name_key, n) ((subgraph_key, s) ∷ (translation_key, t) ∷ []) (name_stored, f)
-      (All-cons P (subgraph_key, s) ((translation_key, t) ∷ []) (subgraph_stored, g) (All-cons P (translation_key, t) [] (translation_stored, h) (All-nil P))) in
+      All-cons P (name_key, n) ((subgraph_key, s) ∷ (translation_key, t) ∷ []) f
+      (All-cons P (subgraph_key, s) ((translation_key, t) ∷ []) g (All-cons P (translation_key, t) [] h (All-nil P))) in
       let same : get_or (three_pairs n s t) k (pair_of d) ≡ pair_of (get_or cs k d) = rw e at (get_or-map pair_of cs k d) in
       subst P same (All-get_or P (three_pairs n s t) k (pair_of d) (omega (arith, ap length e, length-map cs pair_of)) all)
+
+  -- a short key, and what may be stored
+  pub three_short : All HasKey cs
+  three_short = three_all (λ p. length p.0 ≤ max_key) (omega arith) (omega arith) (omega arith)
+
+  pub three_fit : fits n max_value ≡ true → fits s max_value ≡ true → fits t max_value ≡ true → All IsFit cs
+  three_fit f g h =
+      three_all (λ p. (stored_key p.0 ≡ true) × (fits p.1 max_value ≡ true)) (name_stored, f) (subgraph_stored, g) (translation_stored, h)
+
+  -- whichever changes come to the same three, the same is removed
+  pub cleared_same : (ts : List Tag) (ds : List Change) → map pair_of ds ≡ three_pairs n s t → encode_tags (cleared ds ts) ≡ encode_tags (cleared cs ts)
+  cleared_same ts ds f = rw (cleared_by_pairs ds, cleared_by_pairs cs, e, f)
 
   module _ (b : Bytes) (d : is_some (decode_tags b) ≡ true) where
     abbrev ts : List Tag
