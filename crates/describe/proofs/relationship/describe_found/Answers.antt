@@ -1,5 +1,5 @@
 -- The text that what was found decides.
-use Rattle.std.proofs.Common.{length}
+use Rattle.std.proofs.Common.{arith, length}
 use Rattle.describe.proofs.Outcomes.{written_forward, written_backward, written_neither, has_path_in, no_path_own_names}
 use Rattle.describe.proofs.relationship.describe_found.Goals as goal
 
@@ -25,7 +25,8 @@ pub returns-in-Backward : goal.returns-in-Backward
 returns-in-Backward c =
     let a = c.args in
     let found = rw c.in-Backward.is at c.requires in
-    rw (written_backward a.b.now a.c.now a.descs.from.now a.descs.to.now (length a.out.now) a.path.now found.0 found.1, ← c.swapped.ensures.0, ← c.swapped.ensures.1) c.describe_path-in-Backward.ensures
+    let w = written_backward a.b.now a.c.now a.descs.from.now a.descs.to.now (length a.out.now) a.path.now found.0 found.1 in
+    grind (arith, w)
 
 pub returns-in-Neither : goal.returns-in-Neither
 returns-in-Neither c =
