@@ -32,4 +32,5 @@ pub returns-in-Neither : goal.returns-in-Neither
 returns-in-Neither c =
     let a = c.args in
     let found = rw c.in-Neither.is at c.requires in
-    rw (written_neither a.b.now a.c.now a.descs.from.now a.descs.to.now (length a.out.now) found.0 found.1, ← c.own_name-own.ensures, ← c.own_name-other.ensures, ← c.swapped-in-Neither.ensures.0, ← c.swapped-in-Neither.ensures.1) c.describe_no_path.ensures
+    let w = written_neither a.b.now a.c.now a.descs.from.now a.descs.to.now (length a.out.now) found.0 found.1 in
+    grind (arith, w)
