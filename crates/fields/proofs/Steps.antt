@@ -32,15 +32,14 @@ module _ {before : Fields} {tally : Tally} (counts : Tallies before tally) (h : 
   pub part_ends : (before.at ≤ e) × (e < before.stop)
   part_ends = (omega arith, (next_part (separator_of before.source) before.text.now before.stop (omega arith) before.within before.at e h f).2)
 
-  pub part_read : {after : Fields} {y : Bytes} {c : Result Content Fault} → after.source ≡ before.source → after.text.now ≡ before.text.now
-      → after.stop ≡ before.stop → after.at ≡ e + 1 → y ≡ take (e - before.at) (drop before.at before.text.now)
-      → (meaning_of y c ≡ classify_part before.source y) × PlacesIn y c
-      → Reads before tally (record { content = c; offset = before.at; start = before.at; size = e - before.at })
-      after (record { lines = tally.lines; fields = tally.fields + 1 })
-  part_read a b i j v s =
+  pub part_read : {after : Fields} {y : Bytes} {c : Result Content Fault} {begun : Tally} → after.source ≡ before.source → after.text.now ≡ before.text.now
+      → after.stop ≡ before.stop → after.at ≡ e + 1 → begun.lines ≡ tally.lines → begun.fields ≡ tally.fields + 1
+      → y ≡ take (e - before.at) (drop before.at before.text.now) → (meaning_of y c ≡ classify_part before.source y) × PlacesIn y c
+      → Reads before tally (record { content = c; offset = before.at; start = before.at; size = e - before.at }) after begun
+  part_read {after} {y} {c} {begun} a b i j m n v s =
       let w = rw v at s in
       record {
-        reading = λ g. rest_part before.source before.text.now tally before.stop before.at g e h before.within counts.tag f ∙ rw (a, b, i, j, w.0);
+        reading = λ g. rest_part before.source before.text.now tally before.stop before.at g e h before.within counts.tag f ∙ rw (a, b, i, j, m, w.0);
         begins = rw (lt-ltb before.at before.stop h);
         part = omega (arith, part_ends, before.within);
         places = w.1;
@@ -48,16 +47,16 @@ module _ {before : Fields} {tally : Tally} (counts : Tallies before tally) (h : 
         source = a;
         text = b;
         counts = record {
-          lines = omega (arith, counts.lines);
-          fields = omega (arith, counts.fields);
+          lines = omega (arith, counts.lines, m);
+          fields = omega (arith, counts.fields, n);
           tag = rw a (no_lines before.source counts.tag);
         };
-        counted = refl;
+        counted = n;
       }
     where
-      no_lines : (s : Source) → NoLines s tally → NoLines s (record { lines = tally.lines; fields = tally.fields + 1 })
+      no_lines : (s : Source) → NoLines s tally → NoLines s begun
       no_lines Header o = tt
-      no_lines (Tag k) o = o
+      no_lines (Tag k) o = m ∙ o
 
 -- ------------------------------------------------------------------ a line as one field
 

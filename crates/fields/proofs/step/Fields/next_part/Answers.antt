@@ -11,4 +11,4 @@ invariant_of-self-clause-before c = omega (arith, part_ends c.requires.0 c.requi
 
 pub returns : goal.returns
 returns c =
-    part_read c.requires.0 c.requires.1 (rw c.separator.ensures at c.find_byte-end.ensures) refl refl refl refl refl c.content.ensures
+    part_read c.requires.0 c.requires.1 (rw c.separator.ensures at c.find_byte-end.ensures) refl refl refl refl refl (omega arith) refl c.content.ensures
