@@ -56,6 +56,7 @@ impl<'a> RecordNames<'a> {
 }
 
 // How the names at two places compare; where there is none, the other one comes first.
+#[tactic(auto, unfolding(model::specs::Layout::name_at))]
 fn compare_next<'a>(b: RecordNames<'a>, c: RecordNames<'a>, i: usize, j: usize) -> Ordering
     ensures { result ≡ next_order b.entry.bytes.now c.entry.bytes.now i j }
 {
