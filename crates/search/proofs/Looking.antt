@@ -77,8 +77,8 @@ module _ (R : Moves) (from target : ℕ) where
     few : n ≤ size
     few = omega (arith, s.state.found, s.size_is)
 
-    pub told_reached : h < n → node_at q h ≡ target → SearchedFrom R size from target q places (searched (h + 1) n (Some h))
-    told_reached here is = record {
+    told_here : h < n → node_at q h ≡ target → SearchedFrom R size from target q places (searched (h + 1) n (Some h))
+    told_here here is = record {
       best = λ j l. best j (omega arith) (omega arith);
       order = λ i j l m. order q n s.state.tree.falls s.state.tree.rises i j l (omega arith);
       all = λ ms b p. ⊎_elim inl (λ later. inr (h, refl, later)) (none_missing R from q n h s.state.tree s.first_is lows h (omega arith) here ms b p);
@@ -91,6 +91,10 @@ module _ (R : Moves) (from target : ℕ) where
       places_long = s.size_is;
       seats = s.state.seats;
     }
+
+    -- p is the place of the target
+    pub told_reached : (p : ℕ) → p ≡ h → h < n → node_at q h ≡ target → SearchedFrom R size from target q places (searched (h + 1) n (Some p))
+    told_reached p p_is here is = rw p_is (told_here here is)
 
     pub told_ended : n ≤ h → SearchedFrom R size from target q places (searched h n None)
     told_ended over = record {

@@ -24,9 +24,10 @@ module _ (s : List ℕ) (e y : ℕ) (inside : e ≤ length s) (below : (i : ℕ)
           let it : get_or s (e + (i - e)) 0 < y = rw get_or-drop at (f (i - e) 0 (omega arith) (omega arith)) in
           rw at at it
 
-  pub first_found : (k : ℕ) → (k < length (drop e s)) × HoldsAt (λ (x : ℕ). y ≤ x) (drop e s) k × AllWithin (λ (x : ℕ). x < y) (drop e s) 0 k
-      → (e + k ≤ length s) × ((i : ℕ) → i < e + k → get_or s i 0 < y) × (e + k < length s → y ≤ get_or s (e + k) 0)
-  first_found k f = (omega (arith, inside, rw length-drop at f.0), below_more k f.2, λ l. rw get_or-drop at (f.1 0))
+  -- p is where the first of the rest stands in the whole
+  pub first_found : (k p : ℕ) → p ≡ e + k → (k < length (drop e s)) × HoldsAt (λ (x : ℕ). y ≤ x) (drop e s) k × AllWithin (λ (x : ℕ). x < y) (drop e s) 0 k
+      → (p ≤ length s) × ((i : ℕ) → i < p → get_or s i 0 < y) × (p < length s → y ≤ get_or s p 0)
+  first_found k p p_is f = rw p_is (omega (arith, inside, rw length-drop at f.0), below_more k f.2, λ l. rw get_or-drop at (f.1 0))
 
   pub none_found : AllWithin (λ (x : ℕ). x < y) (drop e s) 0 (length (drop e s)) → (i : ℕ) → i < length s → get_or s i 0 < y
   none_found f i l = below_more (length (drop e s)) f i (rw length-drop (omega (arith, inside)))

@@ -11,7 +11,7 @@ returns-in-Some c =
     let y = c.args.node * max_moves in
     let f = IsFirst-from_position _ _ c.position.result (λ (x : ℕ). y ≤ x) (λ (x : ℕ). x < y) c.position.ensures.ran (YieldsList-from_slice (drop c.args.e c.args.steps.now) (c.iter.ensures.rest ∙ rest_whole c.args.steps.now c.args.e))
     (λ x q k. search (rules, tests)) (λ x q k. search (rules, tests)) in
-    first_found c.args.steps.now c.args.e y c.requires.0 c.requires.1 c.in-Some.more (rw c.in-Some.is at f)
+    first_found c.args.steps.now c.args.e y c.requires.0 c.requires.1 c.in-Some.more _ (grind arith) (rw c.in-Some.is at f)
 
 pub returns-in-None : goal.returns-in-None
 returns-in-None c =

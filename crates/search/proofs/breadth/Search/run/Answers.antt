@@ -18,7 +18,7 @@ returns-then-to-target c =
     let l = c.loop-taken in
     let inside : l.taken < length l.self.queue.now = omega (arith, l.invariant.state.room.queue, l.invariant.state.found) in
     let here : node_at l.self.queue.now l.taken ≡ c.args.target = omega (arith, get_or_read _ _ _ inside c.index-self-taken.is 0) in
-    told_reached _ _ _ (λ v m r. r.0) _ _ _ _ _ l.invariant c.loop-taken-test.true here
+    told_reached _ _ _ (λ v m r. r.0) _ _ _ _ _ l.invariant _ (grind arith) c.loop-taken-test.true here
 
 pub loop-taken-preserved : goal.loop-taken-preserved
 loop-taken-preserved c =
