@@ -5,12 +5,12 @@ use Prim.Native.Nat.{ℕ, ◌+◌, ◌*◌, ◌%◌, ◌≤◌, ◌<◌}
 use native.Mathlib.Omega.{arith}
 use Rattle.std.specs.Prelude.{Option, Some, None}
 use lib.ListN.{length, length-append}
+use Rattle.std.proofs.lemmas.Nat.{column_fits}
 use Rattle.model.specs.declared.Kind.{Kind}
 use Rattle.model.specs.Bytes.{Bytes}
 use Rattle.model.specs.Numbers.{le16}
 use Rattle.model.specs.Path.{Step, path_entries, path_bodies, path_bytes}
 use Rattle.search.specs.Steps.{max_nodes}
-use Rattle.search.specs.Extent.{span_lengths}
 use Rattle.search.specs.Queue.{node_at, prev_at, move_at}
 use Rattle.search.specs.Promise.{path_to, Back}
 use Rattle.search.specs.Names.{step_of}
@@ -73,20 +73,24 @@ module _ (name : ℕ → Bytes) (q : List ℕ) where
 
 -- ------------------------------------------------------------------ how long the names are together
 
--- after so many bytes of names, the path to place j is left
-pub record Adding (name : ℕ → Bytes) (q : List ℕ) (place j total : ℕ) : Type 0 where
+-- after so many bytes of names, each shorter than m, the path to place j is left
+pub record Adding (m : ℕ) (name : ℕ → Bytes) (q : List ℕ) (place j total : ℕ) : Type 0 where
   pub low : j ≤ place
-  pub bound : total + span_lengths * j ≤ span_lengths * place
+  pub bound : total + m * j ≤ m * place
   pub left : total + bodies_to name q j ≡ bodies_to name q place
 
-module _ (name : ℕ → Bytes) (q : List ℕ) (place : ℕ) (back : Back q place) where
-  module _ (j total : ℕ) (a : Adding name q place j total) (last : Bytes) (is : last ≡ name (node_at q j)) where
-    pub adding_step : length last < span_lengths → 0 < j → Adding name q place (prev_at q j) (total + length last)
+-- with one name more they are few yet
+pub adding_few : (m : ℕ) (name : ℕ → Bytes) (q : List ℕ) (place j total : ℕ) → Adding m name q place j total → place < max_nodes → (n : ℕ) → n < m → total + n < m * max_nodes
+adding_few m name q place j total a small n l = omega (arith, a.bound, column_fits m place m max_nodes small (omega arith))
+
+module _ (m : ℕ) (name : ℕ → Bytes) (q : List ℕ) (place : ℕ) (back : Back q place) where
+  module _ (j total : ℕ) (a : Adding m name q place j total) (last : Bytes) (is : last ≡ name (node_at q j)) where
+    pub adding_step : length last < m → 0 < j → Adding m name q place (prev_at q j) (total + length last)
     adding_step s z =
         let f = back.falls j z a.low in
         record {
           low = omega (arith, a.low);
-          bound = omega (arith, a.bound);
+          bound = omega (arith, a.bound, column_fits m (prev_at q j) m j f (omega arith));
           left = omega (arith, a.left, ap length is, bodies_step name q place back j z a.low);
         }
 

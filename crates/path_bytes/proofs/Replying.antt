@@ -17,15 +17,17 @@ use Rattle.model.specs.Outcome.{answered, output_after}
 use Rattle.model.specs.Statements.{Relation}
 use Rattle.search.specs.declared.Searched.{Searched}
 use Rattle.search.specs.Steps.{leads}
+use Rattle.search.specs.Table.{Indexed}
 use Rattle.search.specs.Queue.{node_at}
 use Rattle.search.specs.Promise.{SearchedFrom}
 use Rattle.search.specs.Names.{StepTable}
 use Rattle.search.specs.Related.{related, StandsFor}
 use Rattle.search.proofs.Laws.{target_last, node_inside, leads_back}
 use Rattle.search.proofs.Answer.{answer_is}
+use Rattle.search.proofs.Beginnings.{searchable_tables, tables_searchable}
 use Rattle.search.proofs.StepTables.{table_same}
 use Rattle.path_bytes.specs.Written.{path_back, start_name, Readback, PathWritten}
-use Rattle.path_bytes.specs.Replies.{Replies, Askable, Represents, RepliesRight}
+use Rattle.path_bytes.specs.Replies.{Replies, Askable, QuestionTables, Represents, RepliesRight}
 
 -- a table that stands for any relations, given as lists
 pub represents : (steps : List ℕ) (n : ℕ) (name : ℕ → Bytes) (R : Relation) (rs : Relations) → StepTable steps n name R → StandsFor rs R → Represents steps n name rs
@@ -35,8 +37,16 @@ represents steps n name R rs t lists = record {
   translations = lists.translations;
 }
 
+-- what a question wants is what it wants of a graph, and the index that the graph keeps
+module _ (names : ℕ) (steps starts : List ℕ) (from target : ℕ) (q : List ℕ) (places : List (Option ℕ)) where
+  pub askable_tables : Askable names steps starts from target q places → QuestionTables names steps starts from target q places
+  askable_tables a = record { tables = searchable_tables steps starts from q places a.tables; asked = a.asked; named = a.named }
+
+  pub tables_askable : Indexed steps starts → QuestionTables names steps starts from target q places → Askable names steps starts from target q places
+  tables_askable index t = record { tables = tables_searchable steps starts from q places index t.tables; asked = t.asked; named = t.named }
+
 -- what was asked, and what the search left
-module _ (names : ℕ) (steps starts : List ℕ) (from target : ℕ) (q₀ : List ℕ) (places₀ : List (Option ℕ)) (a : Askable names steps starts from target q₀ places₀)
+module _ (names : ℕ) (steps starts : List ℕ) (from target : ℕ) (q₀ : List ℕ) (places₀ : List (Option ℕ)) (a : QuestionTables names steps starts from target q₀ places₀)
     (q : List ℕ) (places : List (Option ℕ)) (r : Searched) (s : SearchedFrom (leads steps) (length places₀) from target q places r) where
   -- a path that was found can be read back
   pub readback : (place : ℕ) → r.target ≡ Some place → Readback names q place

@@ -6,7 +6,7 @@ use Rattle.model.specs.Path.{Relations, best_path}
 use Rattle.model.specs.Outcome.{Answer, answered, sized, output_after}
 use Rattle.model.specs.Record.{compare_pairs}
 use Rattle.model.specs.Statements.{Ascending}
-use Rattle.search.specs.Promise.{Searchable}
+use Rattle.search.specs.Promise.{Searchable, SearchTables}
 use Rattle.search.specs.Names.{StepTable}
 use Rattle.search.specs.Related.{related}
 
@@ -23,6 +23,12 @@ Replies a out r o = (r ≡ reply_of a) × (o ≡ output_after a out)
 -- tables for a question between two nodes, each with a name
 pub record Askable (names : ℕ) (steps starts : List ℕ) (from target : ℕ) (q : List ℕ) (places : List (Option ℕ)) : Type 0 where
   pub tables : Searchable steps starts from q places
+  pub asked : target < length places
+  pub named : names ≡ length places
+
+-- the same of a graph, which keeps that the starts are the index of the steps
+pub record QuestionTables (names : ℕ) (steps starts : List ℕ) (from target : ℕ) (q : List ℕ) (places : List (Option ℕ)) : Type 0 where
+  pub tables : SearchTables steps starts from q places
   pub asked : target < length places
   pub named : names ≡ length places
 

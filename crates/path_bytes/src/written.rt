@@ -5,14 +5,13 @@ ghost use Rattle.model.specs.Numbers.{le16};
 ghost use Rattle.search.specs.Steps.{max_nodes};
 ghost use Rattle.search.specs.Queue.{node_at, prev_at, move_at};
 ghost use Rattle.search.specs.Names.{kind_of};
-ghost use Rattle.search.specs.Extent.{span_lengths};
 ghost use Rattle.search.specs.Spans.{named};
 ghost use Rattle.path_bytes.specs.Layout.{entry_at};
 ghost use Rattle.path_bytes.specs.Written.{step_number, bodies_to, Readback, Writable, NamesWritten, PathWritten};
 
 use crate::layout::{KIND_IN_ENTRY, entry_at};
 use model::{Fault, Kind};
-use search::{Names, Step, path_length};
+use search::{NodeNames, Step, path_length};
 use text::{copy, write16};
 
 // The number for the kind of a name's step in its entry; no step leaves the last name.
@@ -38,17 +37,17 @@ fn put_entry(out: &mut [u8], step: usize, size: usize, kind: Option<Kind>)
 
 // The path to a place of a search's queue.
 #[derive(Clone, Copy)]
-pub(crate) struct FoundPath<'a> {
-    pub names: Names<'a>,
+pub(crate) struct FoundPath<'a, N> {
+    pub names: &'a N,
     pub queue: &'a [Step],
     pub place: usize,
 }
 
-impl<'a> FoundPath<'a> {
+impl<'a, N: NodeNames> FoundPath<'a, N> {
     // Its last name.
     fn name(self) -> &'a [u8]
-        requires { (self.place < length self.queue.now) × (node_at self.queue.now self.place < length self.names.spans.now) }
-        ensures { (result.now ≡ named self.entry.names (node_at self.entry.queue.now self.entry.place)) × (length result.now < span_lengths) }
+        requires { (self.place < length self.queue.now) × (node_at self.queue.now self.place < length (N.names self.names.now).spans.now) }
+        ensures { (result.now ≡ named (N.names self.entry.names.now) (node_at self.entry.queue.now self.entry.place)) × (length result.now < N.lengths) }
     {
         self.names.name(self.queue[self.place].to())
     }
@@ -62,7 +61,7 @@ impl<'a> FoundPath<'a> {
     }
 
     // The path without its last step.
-    fn before(self) -> FoundPath<'a>
+    fn before(self) -> FoundPath<'a, N>
         requires { self.place < length self.queue.now }
         ensures { (result.names ≡ self.entry.names) × (result.queue ≡ self.entry.queue) × (result.place ≡ prev_at self.entry.queue.now self.entry.place) }
     {
@@ -74,8 +73,8 @@ impl<'a> FoundPath<'a> {
 
     // How long its names are together.
     fn bodies_length(self) -> usize
-        requires { Readback (length self.names.spans.now) self.queue.now self.place }
-        ensures { (result ≡ bodies_to (named self.entry.names) self.entry.queue.now self.entry.place) × (result < span_lengths * max_nodes) }
+        requires { Readback (length (N.names self.names.now).spans.now) self.queue.now self.place }
+        ensures { (result ≡ bodies_to (named (N.names self.entry.names.now)) self.entry.queue.now self.entry.place) × (result < N.lengths * max_nodes) }
     {
         let mut path = self;
         let mut total = 0;
@@ -90,8 +89,8 @@ impl<'a> FoundPath<'a> {
     // Writes its names, this many steps from the first: their entries, the last with `kind`, and their bodies from byte `at` on. Gives the
     // place behind them.
     fn put_names(self, step: usize, kind: Option<Kind>, out: &mut [u8], at: usize) -> usize
-        requires { Writable (named self.names) (length self.names.spans.now) self.queue.now self.place step out.old at }
-        ensures { NamesWritten (named self.entry.names) self.entry.queue.now self.entry.place out.old at kind result out.new }
+        requires { Writable (named (N.names self.names.now)) (length (N.names self.names.now).spans.now) self.queue.now self.place step out.old at }
+        ensures { NamesWritten (named (N.names self.entry.names.now)) self.entry.queue.now self.entry.place out.old at kind result out.new }
     {
         let name = self.name();
         if step == 0 {
@@ -106,8 +105,8 @@ impl<'a> FoundPath<'a> {
 
     // Writes its bytes to the front of an output, if there is room for them.
     pub(crate) fn write(self, out: &mut [u8]) -> Result<(), Fault>
-        requires { Readback (length self.names.spans.now) self.queue.now self.place }
-        ensures { PathWritten (named self.entry.names) self.entry.queue.now self.entry.place out.old result out.new }
+        requires { Readback (length (N.names self.names.now).spans.now) self.queue.now self.place }
+        ensures { PathWritten (named (N.names self.entry.names.now)) self.entry.queue.now self.entry.place out.old result out.new }
     {
         let step = path_length(self.queue, self.place);
         let at = entry_at(step + 1);

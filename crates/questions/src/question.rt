@@ -12,7 +12,7 @@ use crate::tables::{
 use model::Fault;
 use path_bytes::find_path;
 use record::Record;
-use search::{Graph, Search, Span, Step};
+use search::{Graph, Search, ShortSpan, Step};
 use text::filled;
 use union::{Question, unite};
 
@@ -70,7 +70,7 @@ fn ask_sized<'a, const PAIRS: usize, const NAMES: usize, const STARTS: usize>(
     ensures { Replies (answer_of question b.entry c.entry (length out.old)) out.old result out.new }
 {
     let mut rows: [Step; PAIRS] = filled(Step::start(0));
-    let mut spans: [Span; NAMES] = filled(Span { start: 0, size: 0 });
+    let mut spans: [ShortSpan; NAMES] = filled(ShortSpan { start: 0, size: 0 });
     let mut numbers: [u16; NAMES] = filled(0);
     let mut steps: [Step; PAIRS] = filled(Step::start(0));
     let mut starts: [u16; STARTS] = filled(0);

@@ -5,7 +5,7 @@ ghost use Rattle.questions.specs.Room.{IsSize};
 
 use model::Kind;
 use record::{MAX_NAMES, MAX_PAIRS, Record};
-use search::{Span, Step};
+use search::{ShortSpan, Step};
 
 // So many names, each counted in both records, fit the small tables, which take less time to clear.
 pub(crate) const SMALL_NAMES: usize = 256;
@@ -29,7 +29,7 @@ pub(crate) const LARGE_PAIRS: usize = 4 * MAX_PAIRS;
 #[derive(Drop)]
 pub(crate) struct Tables<'a> {
     pub rows: &'a mut [Step],
-    pub spans: &'a mut [Span],
+    pub spans: &'a mut [ShortSpan],
     pub numbers: &'a mut [u16],
     pub steps: &'a mut [Step],
     pub starts: &'a mut [u16],

@@ -12,10 +12,11 @@ use Rattle.model.specs.Bytes.{Bytes}
 use Rattle.model.specs.Record.{Pair, compare_pairs}
 use Rattle.model.specs.Statements.{Ascending, Relation}
 use Rattle.search.specs.Steps.{max_nodes, max_moves, leads}
-use Rattle.search.specs.Table.{Rises, Holds, Mergeable, Merged}
-use Rattle.search.specs.Promise.{Searchable}
+use Rattle.search.specs.Table.{Rises, Holds, Mergeable, Merged, Indexed}
+use Rattle.search.specs.Promise.{Searchable, SearchTables}
 use Rattle.search.specs.Names.{kind_of, InOrder, StepTable, Row}
 use Rattle.search.specs.Related.{of_kind, either}
+use Rattle.search.proofs.Beginnings.{tables_searchable}
 use Rattle.search.proofs.Rows.{row_rises, row_stands}
 
 -- the steps of an ascending list of pairs of one kind
@@ -43,14 +44,20 @@ step_node steps n name R t e l =
     let i = t.stands.inside (get_or steps e 0 / max_moves) (get_or steps e 0 % max_moves) (omega arith, (e, l, omega arith)) in
     omega (arith, i.1)
 
--- a table with room for its index can be searched
-pub searchable : (steps starts : List ℕ) (from : ℕ) (q : List ℕ) (places : List (Option ℕ)) (name : ℕ → Bytes) (R : Relation) → StepTable steps (length places) name R
-    → length starts ≡ length places + 1 → length q ≡ length places → from < length places → Searchable steps starts from q places
-searchable steps starts from q places name R t long same l = record {
+-- a table with room for its index can be searched, once it has the index
+pub search_tables : (steps starts : List ℕ) (from : ℕ) (q : List ℕ) (places : List (Option ℕ)) (name : ℕ → Bytes) (R : Relation) → StepTable steps (length places) name R
+    → length starts ≡ length places + 1 → length q ≡ length places → from < length places → SearchTables steps starts from q places
+search_tables steps starts from q places name R t long same l = record {
   connects = record { rises = λ e f l m. omega (arith, t.rises e f l m); nodes = step_node steps (length places) name R t; long = long };
   room = record { queue = same; small = t.few };
   start = l;
 }
+
+-- and with its index it is what a search wants
+pub searchable : (steps starts : List ℕ) (from : ℕ) (q : List ℕ) (places : List (Option ℕ)) (name : ℕ → Bytes) (R : Relation) → StepTable steps (length places) name R
+    → Indexed steps starts → length starts ≡ length places + 1 → length q ≡ length places → from < length places → Searchable steps starts from q places
+searchable steps starts from q places name R t index long same l =
+    tables_searchable steps starts from q places index (search_tables steps starts from q places name R t long same l)
 
 -- ------------------------------------------------------------------ two as one
 

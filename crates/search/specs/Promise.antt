@@ -2,7 +2,7 @@
 -- first move that differs), each with that path read back by its predecessors.
 use Rattle.std.specs.Prelude.{◌≡◌, ◌⊎◌, List, [], ◌∷◌, ◌++◌, ℕ, zero, suc, ◌+◌, ◌≤◌, ◌<◌, length, get_or, Option, Some, None}
 use Rattle.search.specs.declared.Searched.{Searched}
-use Rattle.search.specs.Steps.{Moves, IsPath, Earlier, Best, Connects}
+use Rattle.search.specs.Steps.{Moves, IsPath, Earlier, Best, Made, Connects}
 use Rattle.search.specs.Queue.{node_at, prev_at, move_at, Room, Places}
 
 -- the path to a place, by its predecessors; the first argument bounds how far it goes back
@@ -21,6 +21,12 @@ pub record Back (q : List ℕ) (place : ℕ) : Type 0 where
 
 -- tables to search from a node
 pub record Searchable (steps starts : List ℕ) (from : ℕ) (q : List ℕ) (places : List (Option ℕ)) : Type 0 where
+  pub made : Made steps starts (length places)
+  pub room : Room q places
+  pub start : from < length places
+
+-- the same of a graph, which keeps that the starts are the index of the steps
+pub record SearchTables (steps starts : List ℕ) (from : ℕ) (q : List ℕ) (places : List (Option ℕ)) : Type 0 where
   pub connects : Connects steps starts (length places)
   pub room : Room q places
   pub start : from < length places

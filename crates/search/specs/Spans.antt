@@ -3,6 +3,7 @@ use Rattle.std.specs.Prelude.{cond, List, ℕ, ◌-◌, length, take, drop, get_
 use Rattle.model.specs.Bytes.{Bytes}
 use Rattle.search.specs.declared.names.Span.{Span}
 use Rattle.search.specs.declared.names.Names.{Names}
+use Rattle.search.specs.declared.short_names.ShortNames.{ShortNames}
 
 -- the part that a span stands for: of whichever it begins in
 unfoldable pub spanned : Bytes → Bytes → Span → Bytes
@@ -19,3 +20,7 @@ name_by b c spans v = spanned b c (get_or spans v no_span)
 -- by the names as the code has them
 abbrev pub named : Names → ℕ → Bytes
 named n v = name_by n.first.now n.second.now n.spans.now v
+
+-- short names as any
+abbrev pub plain : ShortNames → Names
+plain n = record { first = n.first; second = n.second; spans = n.spans }

@@ -2,7 +2,7 @@
 ghost use Rattle.std.specs.Prelude.{◌≡◌, ◌+◌, ◌<◌, length};
 ghost use Rattle.search.specs.Steps.{Connects, leads};
 ghost use Rattle.search.specs.Queue.{Searching, Kept};
-ghost use Rattle.search.specs.Promise.{Searchable, SearchedFrom};
+ghost use Rattle.search.specs.Promise.{SearchTables, SearchedFrom};
 
 use crate::Searched;
 use crate::graph::Graph;
@@ -39,7 +39,7 @@ impl<'a> Search<'a> {
 
     // Searches from a node until the target is taken, or to the end; a target that is no node is never taken.
     pub fn run<'g>(&mut self, graph: Graph<'g>, from: usize, target: usize) -> Searched
-        requires { Searchable graph.steps.now graph.starts.now from self.old.queue.now self.old.places.now }
+        requires { SearchTables graph.steps.now graph.starts.now from self.old.queue.now self.old.places.now }
         ensures { SearchedFrom (leads graph.entry.steps.now) (length self.old.places.now) from target self.new.queue.now self.new.places.now result }
     {
         self.places.fill(None);

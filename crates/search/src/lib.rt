@@ -8,14 +8,18 @@
 mod breadth;
 mod graph;
 mod names;
+mod node_names;
 mod path;
+mod short_names;
 mod step;
 mod table;
 
 pub use breadth::Search;
 pub use graph::Graph;
-pub use names::{Names, SPAN_LENGTHS, Span};
+pub use names::{Names, Span};
+pub use node_names::NodeNames;
 pub use path::path_length;
+pub use short_names::{SPAN_LENGTHS, ShortNames, ShortSpan};
 pub use step::{MAX_MOVES, MAX_NODES, Step};
 pub use table::merge;
 

@@ -1,40 +1,21 @@
 // The names of the nodes: parts of two lent slices, counted through the first and on through the second.
 ghost use Rattle.std.specs.Prelude.{◌≡◌, ◌<◌, length};
-ghost use Rattle.search.specs.Extent.{span_lengths};
 ghost use Rattle.search.specs.Spans.{spanned, named};
 
-use std::marker::Model;
 use text::part;
 
-// The length of a name in a span is below this.
-pub const SPAN_LENGTHS: u32 = 512;
-
-// Where a name stands.
+// Where a name stands, whose length two bytes can say.
 #[derive(Clone, Copy, Debug, PartialEq, Eq)]
 pub struct Span {
     pub start: u32,
     pub size: u16,
 }
 
-impl Model for Span {
-    ghost use Rattle.std.specs.Prelude.{◌<◌};
-    ghost use Rattle.search.specs.declared.names.TheConstants.{SPAN_LENGTHS};
-    ghost use Rattle.search.specs.Extent.{Extent};
-
-    ghost Value = { Extent };
-
-    ghost view = { λ span. record { start = span.start; size = span.size } };
-
-    ghost invariant = { λ span. span.size < SPAN_LENGTHS };
-
-    ghost inverse = { λ extent. record { start = extent.start; size = extent.size } };
-}
-
 impl Span {
     // The part that it stands for, of whichever slice it begins in.
     #[tactic(auto, using(crate::proofs::Spanning::parts))]
     pub fn of<'a>(self, first: &'a [u8], second: &'a [u8]) -> &'a [u8]
-        ensures { (result.now ≡ spanned first.now second.now self) × (length result.now < span_lengths) }
+        ensures { (result.now ≡ spanned first.now second.now self) × (length result.now < 65536) }
     {
         let start = self.start as usize;
         let size = self.size as usize;
@@ -57,7 +38,7 @@ impl<'a> Names<'a> {
     // The name of a node.
     pub fn name(self, node: usize) -> &'a [u8]
         requires { node < length self.spans.now }
-        ensures { (result.now ≡ named self.entry node) × (length result.now < span_lengths) }
+        ensures { (result.now ≡ named self.entry node) × (length result.now < 65536) }
     {
         self.spans[node].of(self.first, self.second)
     }

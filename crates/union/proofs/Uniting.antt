@@ -13,7 +13,7 @@ use Rattle.record.specs.Holds.{HoldsRecord}
 use Rattle.record.proofs.Laws.{decoded}
 use Rattle.record.proofs.Access.{record_count, record_pair_count, record_name}
 use Rattle.search.specs.declared.names.Span.{Span}
-use Rattle.search.specs.Spans.{spanned, no_span, name_by}
+use Rattle.search.specs.Spans.{spanned, no_span, name_by, plain}
 use Rattle.union.specs.declared.graph.United.{United}
 use Rattle.union.specs.declared.steps.Question.{Question}
 use Rattle.union.specs.Names.{NumberedTo, Joinable, Joined}
@@ -80,7 +80,7 @@ module _ (b c : Bytes) (hb : HoldsRecord b) (hc : HoldsRecord c) (g h : GraphNam
 
         module _ (r : United) (first_is : r.names.first.now ≡ b) (second_is : r.names.second.now ≡ c) (spans_are : r.names.spans.now ≡ nodes)
             (steps_are : r.steps.now ≡ take count steps') (numbers_are : r.first.now ≡ first') (others_are : r.second.now ≡ second') where
-          nodes_of : (d : Bytes) → HoldsRecord d → (ns : List ℕ) → name_count d ≤ length ns → NumberedTo (name_count d) d ns n (name_by b c nodes) → NodesOf (names (shown d)) ns r.names
+          nodes_of : (d : Bytes) → HoldsRecord d → (ns : List ℕ) → name_count d ≤ length ns → NumberedTo (name_count d) d ns n (name_by b c nodes) → NodesOf (names (shown d)) ns (plain r.names)
           nodes_of d hd ns room to = record {
             room = omega (arith, record_count d (shown d) hd.decoded);
             nodes = λ p l.

@@ -1,4 +1,5 @@
--- The names of two records as one row of spans, ascending by name, none twice; and the numbers of the names by place in each record.
+-- The names of two records as one row of spans, ascending by name, none twice; and the numbers of the names by place in each record. A short
+-- span of the code is seen as any span is.
 use Rattle.std.specs.Prelude.{◌≡◌, cond, List, ℕ, ◌+◌, ◌≤◌, ◌<◌, length, get_or, leb}
 use Rattle.std.specs.declared.cmp.Ordering.{Ordering}
 use Rattle.std.specs.declared.cmp.Ordering.TheVariants.{Less, Greater}

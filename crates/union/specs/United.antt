@@ -5,7 +5,7 @@ use Rattle.model.specs.Record.{GraphName, names}
 use Rattle.model.specs.Statements.{Valid}
 use Rattle.search.specs.declared.names.Span.{Span}
 use Rattle.search.specs.declared.names.Names.{Names}
-use Rattle.search.specs.Spans.{named}
+use Rattle.search.specs.Spans.{named, plain}
 use Rattle.search.specs.Names.{StepTable}
 use Rattle.union.specs.declared.graph.United.{United}
 use Rattle.union.specs.declared.steps.Question.{Question}
@@ -35,6 +35,6 @@ pub record IsUnited (q : Question) (g h : GraphName) (r : United) : Type 0 where
   pub valid : Valid g × Valid h
   pub names_count : length r.names.spans.now ≤ names_of_both g h
   pub steps_count : length r.steps.now ≤ pairs_of_two g h
-  pub first : NodesOf (names g) r.first.now r.names
-  pub second : NodesOf (names h) r.second.now r.names
-  pub table : StepTable r.steps.now (length r.names.spans.now) (named r.names) (by_question q g h)
+  pub first : NodesOf (names g) r.first.now (plain r.names)
+  pub second : NodesOf (names h) r.second.now (plain r.names)
+  pub table : StepTable r.steps.now (length r.names.spans.now) (named (plain r.names)) (by_question q g h)

@@ -4,12 +4,12 @@ ghost use Rattle.union.specs.United.{Unitable, IsUnited};
 use crate::names::{RecordNames, join};
 use crate::steps::{NumberedRecord, Question, question_steps};
 use record::Record;
-use search::{Names, Span, Step};
+use search::{ShortNames, ShortSpan, Step};
 
 // The names of the nodes, and the steps between them; by place in each record, the node of the name there.
 #[derive(Clone, Copy)]
 pub struct United<'a> {
-    pub names: Names<'a>,
+    pub names: ShortNames<'a>,
     pub steps: &'a [Step],
     pub first: &'a [u16],
     pub second: &'a [u16],
@@ -22,7 +22,7 @@ pub fn unite<'a>(
     c: &Record<'a>,
     question: Question,
     rows: &mut [Step],
-    spans: &'a mut [Span],
+    spans: &'a mut [ShortSpan],
     numbers: &'a mut [u16],
     steps: &'a mut [Step],
 ) -> United<'a>
@@ -43,7 +43,7 @@ pub fn unite<'a>(
     };
     let count = question_steps(mine, other, question, rows, steps);
     United {
-        names: Names {
+        names: ShortNames {
             first: b.bytes,
             second: c.bytes,
             spans: &spans[..nodes],

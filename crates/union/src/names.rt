@@ -5,7 +5,7 @@ ghost use Rattle.record.specs.Holds.{HoldsRecord};
 ghost use Rattle.union.specs.Names.{span_at, next_order, Joinable, Joined};
 
 use record::{Record, bodies_at, body_length, body_start, name_count, name_in};
-use search::Span;
+use search::ShortSpan;
 use std::cmp::Ordering;
 use text::compare;
 
@@ -43,12 +43,12 @@ impl<'a> RecordNames<'a> {
 
     // Its span, with the record behind `before` bytes.
     #[tactic(auto, using(crate::proofs::Placed::name_short))]
-    fn span(self, i: usize, before: usize) -> Span
+    fn span(self, i: usize, before: usize) -> ShortSpan
         requires { (i < self.count) × (before ≤ record_length) }
         ensures { result ≡ span_at before self.entry.bytes.now i }
     {
         let start = before + self.bodies + body_start(self.bytes, i);
-        Span {
+        ShortSpan {
             start: start as u32,
             size: body_length(self.bytes, i) as u16,
         }
@@ -73,7 +73,7 @@ fn compare_next<'a>(b: RecordNames<'a>, c: RecordNames<'a>, i: usize, j: usize) 
 pub(crate) fn join<'a>(
     b: RecordNames<'a>,
     c: RecordNames<'a>,
-    spans: &mut [Span],
+    spans: &mut [ShortSpan],
     first: &mut [u16],
     second: &mut [u16],
 ) -> usize

@@ -2,4 +2,4 @@
 use Rattle.path_bytes.proofs.written.FoundPath.+put_names.Given as goal
 
 abbrev pub decreases-put_names : goal.decreases-put_names
-decreases-put_names l = l.step
+decreases-put_names g l = l.step
